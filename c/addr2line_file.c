@@ -1,6 +1,6 @@
 /* Files for addr2line.h: see addr2line_file.h. */
 #ifndef _POSIX_C_SOURCE
-#define _POSIX_C_SOURCE 200112L
+#define _POSIX_C_SOURCE 200809L
 #endif
 
 #include "addr2line_file.h"
@@ -49,7 +49,8 @@ static addr2line_status map_path(const char *path, addr2line_file *file, struct 
     if (node == NULL) {
         return ADDR2LINE_OUT_OF_MEMORY;
     }
-    fd = open(path, O_RDONLY);
+    /* Opening a named pipe would wait for its writer, and debug information chooses the paths of split files. */
+    fd = open(path, O_RDONLY | O_NONBLOCK | O_CLOEXEC);
     if (fd >= 0) {
         status = map_open(fd, file, node);
         close(fd);

@@ -190,11 +190,14 @@ addr2line_status addr2line_find_location(addr2line *handle, uint64_t address, ad
 
 /* Names as they stand in the source, for Rust before its version 0 of mangling; takes memory for each. */
 #define ADDR2LINE_DEMANGLE 1u
+/* The same, and names of that version too. */
+#define ADDR2LINE_DEMANGLE_RUST 2u
 
 /*
  * The frames at an address: the innermost inlined function first, the one that is no inlined call
  * last. `count` is how many there are, 0 where nothing is known; where that is above `capacity`, or
- * the text has no room, the status is ADDR2LINE_TOO_SMALL. `flags` is 0 or ADDR2LINE_DEMANGLE.
+ * the text has no room, the status is ADDR2LINE_TOO_SMALL. `flags` is 0,
+ * ADDR2LINE_DEMANGLE or ADDR2LINE_DEMANGLE_RUST.
  *
  * ADDR2LINE_WAITS, with 0 frames, where a split file has to be answered first; then make the call
  * again. Refused by the first fault of a unit that has the address. Takes memory where something is

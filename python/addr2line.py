@@ -11,11 +11,16 @@ ADDR2LINE_LIBRARY names another. A file is used by one call at a time, on the th
 import collections
 import ctypes
 import ctypes.util
+import errno
 import mmap
 import os
+import stat
 
 OK, TOO_SMALL, WAITS, NOTHING, CLOSED, OTHER_UNIT, OUT_OF_MEMORY = 0, 1, 2, 3, 4, 5, 16
-DEMANGLE = 1
+NOT_ELF = 18
+DEMANGLE, DEMANGLE_RUST = 1, 2
+# The flags of a lookup by what its argument `demangle` is.
+_STYLES = {False: 0, True: DEMANGLE, "rust": DEMANGLE_RUST}
 
 Location = collections.namedtuple("Location", "file line column")
 Frame = collections.namedtuple("Frame", "function file line column entry")
@@ -123,10 +128,17 @@ class _Bytes:
     """Bytes that stay where they are until they are released."""
 
     def __init__(self, path):
-        with open(path, "rb") as file:
-            self.size = os.fstat(file.fileno()).st_size
+        # Opening a named pipe would wait for its writer, and debug information chooses the paths of split files.
+        number = os.open(path, os.O_RDONLY | os.O_NONBLOCK | os.O_CLOEXEC)
+        try:
+            about = os.fstat(number)
+            if not stat.S_ISREG(about.st_mode):
+                raise OSError(errno.EINVAL, "not a regular file", path)
+            self.size = about.st_size
             # A private mapping may be written, which ctypes asks for; nothing writes it.
-            self.map = mmap.mmap(file.fileno(), 0, access=mmap.ACCESS_COPY) if self.size else None
+            self.map = mmap.mmap(number, 0, access=mmap.ACCESS_COPY) if self.size else None
+        finally:
+            os.close(number)
         self.view = (ctypes.c_char * self.size).from_buffer(self.map) if self.size else None
         self.at = ctypes.addressof(self.view) if self.size else None
 
@@ -144,6 +156,9 @@ class File:
         self._bytes = [_Bytes(path)]
         if sup is not None:
             self._bytes.append(_Bytes(sup))
+            if not self._bytes[-1].size:
+                self.close()
+                raise Refused(NOT_ELF)
         main, more = self._bytes[0], self._bytes[-1] if sup is not None else None
         self._text = ctypes.create_string_buffer(4096)
         self._frames = (_Frame * 32)()
@@ -207,10 +222,13 @@ class File:
         return self._location(found)
 
     def frames(self, address, demangle=False):
-        """The frames at an address, the innermost first; split files are read as they are asked for."""
+        """The frames at an address, the innermost first; split files are read as they are asked for.
+
+        `demangle` is whether legacy names of Rust stand as in the source, or "rust" for v0 names too.
+        """
         count = ctypes.c_size_t()
         while True:
-            flags = DEMANGLE if demangle else 0
+            flags = _STYLES[demangle]
             frames = self._frames
             status = self._call("find_frames", address, flags, frames, len(frames), ctypes.byref(count))
             if status == OK:

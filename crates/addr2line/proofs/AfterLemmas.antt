@@ -1,6 +1,6 @@
 -- What holds of a context once a lookup was lent from it that it had stored (on
 -- specs/AfterLookups.antt and specs/Skips.antt).
-use Rattle.addr2line.proofs.Common.{◌≡◌, inl, inr, ℕ, Bool, true, false, Option, Some, None, option_map, Result, Ok, Err, refl, sym, ap, subst, ◌∙◌, IfErr, OnOk, Error, ◌>>=◌, ExactlyUnlessOom, WasNotRefused, Sections, LookupResult, Load, Output, OnFault, LookupStop, Waits, Finds, FindsNothing, is_waiting, readable_view, unit_found, view_of_number, IfLoad, IfOutput, unit_records, UnitIndex, index_units, FirstAnswers, SplitLoad, View, parts_of, AfterFrames, AfterFramesOver, IsLent, IsStored, NeedsNoMemory, Suspends, ContextState, IsFaultOfAsked, IsLoadOf, ended_with, lookup_stop, unit_value, view_found, waiting_unit, found_of_context}
+use Rattle.addr2line.proofs.Common.{◌≡◌, inl, inr, ℕ, Bool, true, false, Option, Some, None, option_map, Result, Ok, Err, refl, sym, ap, subst, ◌∙◌, IfErr, OnOk, Error, ◌>>=◌, ExactlyUnlessOom, WasNotRefused, fault_of, Sections, LookupResult, Load, Output, OnFault, LookupStop, Waits, Finds, FindsNothing, is_waiting, readable_view, unit_found, view_of_number, IfLoad, IfOutput, unit_records, UnitIndex, index_units, FirstAnswers, SplitLoad, View, parts_of, AfterFrames, AfterFramesOver, IsLent, IsStored, NeedsNoMemory, Suspends, ContextState, IsFaultOfAsked, IsLoadOf, ended_with, lookup_stop, unit_value, view_found, waiting_unit, found_of_context}
 use Rattle.addr2line.specs.AfterAnswering.{AfterAnswering, AfterAnsweringOver, AfterResume}
 use Rattle.addr2line.specs.Skips.{AfterSkip, skipped_answers}
 
@@ -19,6 +19,27 @@ pub resume_refused : {X : Type 0} (shares : Bool) (faults : OnFault) (probe n : 
 resume_refused shares faults probe n given e old new a =
     let oom = a.after.refused.0 in
     inr (ap (λ x. Err x) oom, subst (λ x. AfterAnswering n given (Err x) old new) oom a.after, λ none. a.no_memory none ∙ ap (λ x. Err x) oom)
+
+-- what is left by a lookup, by whether it was refused alone
+pub frames_told : {X : Type 0} (faults : OnFault) (probe : ℕ) (old mid : ContextState) (r : Result X Error) → AfterFrames faults probe r old mid → AfterFrames faults probe (fault_of r) old mid
+frames_told faults probe old mid (Ok x) a = record { sections = a.sections; answers = a.answers; parsed = a.parsed; known = a.known; only = a.only; learns = a.learns; details = a.details; raised = a.raised; ready = a.ready; memory = a.memory }
+frames_told faults probe old mid (Err e) a = record { sections = a.sections; answers = a.answers; parsed = a.parsed; known = a.known; only = a.only; learns = a.learns; details = a.details; raised = a.raised; ready = a.ready; memory = a.memory }
+
+pub skip_told_so : {X : Type 0} (shares : Bool) (faults : OnFault) (probe : ℕ) (old mid : ContextState) (r : Result X Error) → AfterSkip shares faults probe r old mid → AfterSkip shares faults probe (fault_of r) old mid
+skip_told_so shares faults probe old mid (Ok x) a = record { sections = a.sections; answers = a.answers; begun = a.begun; parsed = a.parsed; known = a.known; only = a.only; raised = a.raised; ready = a.ready; memory = a.memory; no_memory = a.no_memory }
+skip_told_so shares faults probe old mid (Err e) a = record { sections = a.sections; answers = a.answers; begun = a.begun; parsed = a.parsed; known = a.known; only = a.only; raised = a.raised; ready = a.ready; memory = a.memory; no_memory = a.no_memory }
+
+pub stored_told : {X : Type 0} (faults : OnFault) (probe : ℕ) (c : ContextState) (r : Result X Error) → IsStored faults probe r c → IsStored faults probe (fault_of r) c
+stored_told faults probe c (Ok x) h = h
+stored_told faults probe c (Err e) h = h
+
+pub fault_told : {X : Type 0} (P : Error → Type 0) (r : Result X Error) → IfErr r P → IfErr (fault_of r) P
+fault_told P (Ok x) h = tt
+fault_told P (Err e) h = h
+
+pub ok_told : {X : Type 0} (P : Type 0) (r : Result X Error) → OnOk r P → OnOk (fault_of r) P
+ok_told P (Ok x) h = h
+ok_told P (Err e) h = tt
 
 -- a lookup that has ended gives the same in a context with the same sections and first answers
 pub outputs_same : {L V X D S : Type 0} (reading : Sections → FirstAnswers → ℕ → Result V Error) (see : X → V) (probe : ℕ) (old mid : ContextState) (result : LookupResult L (Result X Error) D S) → mid.sections ≡ old.sections → mid.answers ≡ old.answers

@@ -8,7 +8,7 @@ use Rattle.addr2line_units.specs.LoadsLaws as laws
 use Rattle.addr2line.proofs.ContextLemmas.{at_made, by_made, or_made, still_context}
 
 -- a lookup that waits for the unit of a number
-waits_is : (n : ℕ) (r : Result LookupStop Error) → waits_for n r ≡ true → r ≡ Ok (Waits n)
+pub waits_is : (n : ℕ) (r : Result LookupStop Error) → waits_for n r ≡ true → r ≡ Ok (Waits n)
 waits_is n (Ok (Waits k)) e = ap (λ j. Ok (Waits j)) (eqb-true k n e)
 waits_is n (Ok (Finds k frames)) e = absurd cc
 waits_is n (Ok FindsNothing) e = absurd cc

@@ -1,7 +1,15 @@
 -- What was asked for by a lookup that waits is asked for after an answer (on
 -- specs/AfterLookups.antt).
-use Rattle.addr2line.proofs.Common.{◌≡◌, ◌≢◌, ◌⊎◌, inl, inr, ℕ, zero, suc, Bool, true, false, ◌&&◌, not, List, [], ◌∷◌, slice_get, if◌then◌else◌, Option, Some, None, option_map, Result, Ok, Err, refl, sym, ap, subst, ◌∙◌, eqb_tells, slice_get-map, set, is_none, Error, ◌>>=◌, Sections, UnitRecord, Scope, OnFault, UnitRange, cover, LookupAsks, LookupStop, Waits, after_fault, answer_of, asked_frames, asks_lines_of, ends_lookup, function_offset_of, main_scope, or_stop, stop_along, with_answer, KnownEntries, LearnsDetailsAt, LearnsNoDetails, ParsesOnly, has_parsed, is_open_at, FramesResult, asks_lines_in, frames_in, function_in, function_offset_by, function_offset_in, UnitIndex, index_units, IndexedUnit, unit_records, FirstAnswers, View, decided_answer, is_open, verdict, waits_listed, AfterAnswering, answered, ContextState, AfterFrames, ReadsAsked, asked_of, lookup_stop, stop_in, get_set_other}
+use Rattle.addr2line.proofs.Common.{◌≡◌, ◌≢◌, ◌⊎◌, ◌||◌, inl, inr, ℕ, zero, suc, Bool, true, false, ◌&&◌, not, List, [], ◌∷◌, slice_get, if◌then◌else◌, Option, Some, None, option_map, Result, Ok, Err, refl, sym, ap, subst, ◌∙◌, eqb_tells, slice_get-map, set, is_none, Error, ◌>>=◌, Sections, UnitRecord, Scope, OnFault, UnitRange, cover, LookupAsks, LookupStop, Waits, after_fault, answer_of, asked_frames, asks_lines_of, ends_lookup, function_offset_of, main_scope, or_stop, stop_along, with_answer, KnownEntries, LearnsDetailsAt, LearnsNoDetails, ParsesOnly, has_parsed, is_open_at, FramesResult, asks_lines_in, frames_in, function_in, function_offset_by, function_offset_in, UnitIndex, index_units, IndexedUnit, unit_records, FirstAnswers, View, decided_answer, is_open, verdict, waits_listed, AfterAnswering, answered, ContextState, AfterFrames, ReadsAsked, asked_of, lookup_stop, stop_in, get_set_other}
 use Rattle.std.specs.Prelude.{is_ok, unwrap_or}
+use Rattle.std.specs.List.{AllByRecursion}
+use Rattle.addr2line_units.specs.declared.frames.Asks.TheVariants as lookups
+use Rattle.addr2line_units.specs.EntriesKnown.{is_known_at}
+use Rattle.addr2line_units.specs.IndexCover.{before_place}
+use Rattle.addr2line_units.specs.UnitsAfter.{HasPassedTo}
+use Rattle.addr2line_units.proofs.FramesWalkedLemmas.{IsPassed, as_passed, of_passed}
+use Rattle.addr2line_units.specs.UnitsState.{UnitsState}
+use Rattle.addr2line.specs.AfterLookups.{HasPassed}
 use Rattle.addr2line_units.proofs.FramesLookupLemmas.{parses_more}
 use Rattle.addr2line_units.proofs.EntriesLearnedLemmas.{learns_no_details}
 use Rattle.addr2line_units.proofs.FramesWaitLemmas.{same_number}
@@ -94,19 +102,20 @@ module _ (faults : OnFault) (scope : Scope) (units : List IndexedUnit) (answers 
   other_now : (k : ℕ) → k ≢ n → answer_of now k ≡ answer_of answers k
   other_now = other_answers scope.file.sections (unit_records units) answers n given
 
+  abbrev frames_of_answer : Option (Option Sections) → Option IndexedUnit → FramesResult
+  frames_of_answer a o = elim o [ None ↦ Ok (Some []) | Some u ↦ frames_in scope u a probe ]
+
+  -- the unit that waits has no frames yet
+  waits_here : (j : ℕ) → j ≡ n → asked_frames faults scope units answers probe j ≡ Ok None
+  waits_here j q = subst (λ i. asked_frames faults scope units answers probe i ≡ Ok None) (sym q)
+      (ap (after_fault faults) (ap (frames_of_answer (answer_of answers n)) w.unit_is ∙ none_if_open scope w.unit (answer_of answers n) probe w.open_is))
+
   -- a unit that doesn't wait is asked for the same
   same_asked : (k : ℕ) → asked_frames faults scope units answers probe k ≢ Ok None → asked_frames faults scope units now probe k ≡ asked_frames faults scope units answers probe k
   same_asked k ne = elim (eqb_tells k n) [
-    | inl p ↦ absurd (ne (waits_at k p.1))
-    | inr q ↦ ap (λ a. after_fault faults (frames_by a (slice_get units k))) (other_now k q.1)
+    | inl p ↦ absurd (ne (waits_here k p.1))
+    | inr q ↦ ap (λ a. after_fault faults (frames_of_answer a (slice_get units k))) (other_now k q.1)
   ]
-    where
-      frames_by : Option (Option Sections) → Option IndexedUnit → FramesResult
-      frames_by a o = elim o [ None ↦ Ok (Some []) | Some u ↦ frames_in scope u a probe ]
-
-      waits_at : (j : ℕ) → j ≡ n → asked_frames faults scope units answers probe j ≡ Ok None
-      waits_at j q = subst (λ i. asked_frames faults scope units answers probe i ≡ Ok None) (sym q)
-          (ap (after_fault faults) (ap (frames_by (answer_of answers n)) w.unit_is ∙ none_if_open scope w.unit (answer_of answers n) probe w.open_is))
 
   still_asked : (ranges : List UnitRange) (k : ℕ) → LookupAsks (asked_frames faults scope units answers probe) ranges k → LookupAsks (asked_frames faults scope units now probe) ranges k
   still_asked [] k asked = absurd asked
@@ -147,6 +156,61 @@ module _ (faults : OnFault) (scope : Scope) (units : List IndexedUnit) (answers 
           let at : function_offset_of scope units answers probe n ≡ Some offset = subst (λ i. function_offset_of scope units answers probe i ≡ Some offset) q h in
           let f : None ≡ Some offset = sym (ap (offset_by (answer_of answers n)) w.unit_is ∙ no_offset_if_open scope w.unit.unit (answer_of answers n) probe w.open_is) ∙ at in
           cc
+
+  -- what was passed over stays so, by what is known of other units
+  module _ (parsed : List Bool) (known later : List KnownEntries) (steps more : ℕ) (stop next : LookupStop) (same : (k : ℕ) → k ≢ n → slice_get later k ≡ slice_get known k) where
+    abbrev first_state : UnitsState
+    first_state = record { scope = scope; units = units; answers = answers; parsed = parsed; known = known; steps = steps; stop = stop }
+
+    abbrev next_state : UnitsState
+    next_state = record { scope = scope; units = units; answers = now; parsed = parsed; known = later; steps = more; stop = next }
+
+    never_none : (x : FramesResult) → x ≡ Ok (Some []) → x ≢ Ok None
+    never_none x e q = let f : ◌≡◌ {A = FramesResult} (Ok None) (Ok (Some [])) = sym q ∙ e in cc
+
+    not_waiting : (k : ℕ) → asked_frames faults scope units answers probe k ≡ Ok (Some []) → k ≢ n
+    not_waiting k e is = never_none (asked_frames faults scope units answers probe k) e (waits_here k is)
+
+    still_passed_over : (k : ℕ) → IsPassed (lookups.Frames faults) probe first_state k → IsPassed (lookups.Frames faults) probe next_state k
+    still_passed_over k p =
+        let other = not_waiting k p.nothing in
+        record {
+          nothing = same_asked k (never_none (asked_frames faults scope units answers probe k) p.nothing) ∙ p.nothing;
+          known = ap (λ x. known_by x (asks_lines_of scope units now probe k)) (same k other)
+              ∙ ap (λ a. known_by (slice_get known k) (lines_of a (slice_get units k))) (other_now k other) ∙ p.known;
+        }
+      where
+        known_by : Option KnownEntries → Bool → Bool
+        known_by x asks = unwrap_or (option_map (is_known_at probe) x) true && (not asks || has_parsed parsed k)
+
+        lines_of : Option (Option Sections) → Option IndexedUnit → Bool
+        lines_of a o = elim o [ None ↦ false | Some u ↦ asks_lines_in scope u.unit a probe ]
+
+    still_all_passed_over : (rs : List UnitRange) → AllByRecursion (λ (r : UnitRange). IsPassed (lookups.Frames faults) probe first_state r.unit) rs → AllByRecursion (λ (r : UnitRange). IsPassed (lookups.Frames faults) probe next_state r.unit) rs
+    still_all_passed_over [] all = tt
+    still_all_passed_over (r ∷ rs) all = (still_passed_over r.unit all.0, still_all_passed_over rs all.1)
+
+    pub still_passed_to : (ranges : List UnitRange) (place : Option UnitRange) → HasPassedTo (lookups.Frames faults) probe first_state ranges place → HasPassedTo (lookups.Frames faults) probe next_state ranges place
+    still_passed_to ranges place passed =
+        let rs = before_place place ranges in
+        as_passed (lookups.Frames faults) probe next_state rs (still_all_passed_over rs (of_passed (lookups.Frames faults) probe first_state rs passed))
+
+-- after an answer to the unit that a lookup waits for, what it had passed over stays so
+pub passed_answered : (faults : OnFault) (probe n : ℕ) (given : Option Sections) (place : Option UnitRange) (old new : ContextState) → lookup_stop faults old.sections old.answers probe ≡ Ok (Waits n) → AfterAnswering n given (Ok tt) old new → HasPassed faults old probe place → HasPassed faults new probe place
+passed_answered faults probe n given place old new waits a passed m e =
+    let is : index_units old.sections ≡ Ok m = sym (ap index_units a.sections) ∙ e in
+    let scope = main_scope old.sections m in
+    let us = unit_records m.units in
+    let stop : stop_along (asked_of faults old.sections old.answers probe m) (cover probe m.ranges) ≡ Ok (Waits n) = sym (ap (λ r. r >>= stop_in faults old.sections old.answers probe) is) ∙ waits in
+    let there = open_there old.sections m.units old.answers n (waits_listed faults scope m.units old.answers probe n (cover probe m.ranges) stop).0 in
+    let now : new.answers ≡ with_answer old.sections us old.answers n given = a.answers ∙ ap (λ (r : Result UnitIndex Error). elim r [ Err f ↦ old.answers | Ok x ↦ with_answer old.sections (unit_records x.units) old.answers n given ]) is in
+    let all = still_passed_to faults scope m.units old.answers n there given probe old.parsed old.known new.known old.steps new.steps old.stop new.stop a.others (cover probe m.ranges) place (passed m is) in
+    subst (λ d. HasPassedTo (lookups.Frames faults) probe (by_parts d new.answers new.parsed) (cover probe m.ranges) place) (sym a.sections)
+    (subst (λ x. HasPassedTo (lookups.Frames faults) probe (by_parts old.sections x new.parsed) (cover probe m.ranges) place) (sym now)
+    (subst (λ p. HasPassedTo (lookups.Frames faults) probe (by_parts old.sections (with_answer old.sections us old.answers n given) p) (cover probe m.ranges) place) (sym a.parsed) all))
+  where
+    by_parts : Sections → FirstAnswers → List Bool → UnitsState
+    by_parts d answers parsed = record { scope = main_scope d m; units = m.units; answers = answers; parsed = parsed; known = new.known; steps = new.steps; stop = new.stop }
 
 -- what is read along a lookup of the probe, by sections and first answers
 module _ (faults : OnFault) (probe : ℕ) where

@@ -1,9 +1,16 @@
 -- What a lookup of frames comes to in a context (on specs/Lookups.antt and specs/AfterLookups.antt).
-use Rattle.addr2line.proofs.Common.{◌≡◌, ◌≢◌, ◌⊎◌, ℕ, ◌&&◌, ◌||◌, Bool, true, not, List, [], ◌∷◌, slice_get, Some, None, option_map, Result, Ok, Err, refl, sym, ap, subst, ◌∙◌, IfErr, IfOk, Error, ◌>>=◌, ExactlyUnlessOom, WasNotRefused, Scope, OnFault, Skip, UnitRange, cover, LookupAsks, LookupStop, after_fault, asked_frames, asks_lines_of, frames_of_number, function_offset_of, inlined_at_number, holds_along, or_stop, stop_along, LearnsDetailsAt, knows_at, ParsesOnly, has_parsed, IndexedUnit, FramesResult, UnitsState, asks_no_memory_at, has_all_at, has_few_at, stop_of, FirstAnswers, SplitLoad, load_of_unit, IsContext, as_context, AfterFrames, IsKnownFew, NeedsNoMemory, IsFaultOfAsked, IsLoadOf, lookup_stop}
+use Rattle.addr2line.proofs.Common.{◌≡◌, ◌≢◌, ◌⊎◌, ℕ, ◌&&◌, ◌||◌, Bool, true, not, List, [], ◌∷◌, filter, slice_get, Option, Some, None, option_map, Result, Ok, Err, refl, sym, ap, subst, ◌∙◌, IfErr, IfOk, Error, ◌>>=◌, ExactlyUnlessOom, WasNotRefused, Scope, OnFault, Skip, UnitRange, cover, LookupAsks, LookupStop, after_fault, asked_frames, asks_lines_of, frames_of_number, function_offset_of, inlined_at_number, holds_along, or_stop, stop_along, LearnsDetailsAt, knows_at, ParsesOnly, has_parsed, IndexedUnit, FramesResult, UnitsState, asks_no_memory_at, has_all_at, has_few_at, stop_of, FirstAnswers, SplitLoad, load_of_unit, IsContext, as_context, AfterFrames, IsKnownFew, NeedsNoMemory, IsFaultOfAsked, IsLoadOf, lookup_stop}
 use Rattle.gimli_read.specs.declared.error.Error.TheVariants.{OutOfMemory}
 use Rattle.addr2line_lines.specs.InlineRoom.{exceeds_inline_room}
 use Rattle.addr2line_units.specs.declared.frames.Asks.TheVariants as lookups
 use Rattle.addr2line_units.specs.UnitsAfter as left
+use Rattle.addr2line_units.specs.UnitsAfter.{HasPassedTo}
+use Rattle.addr2line_units.specs.IndexCover.{ends_sooner, from_place, range_covers}
+use Rattle.addr2line_lines.specs.InOrder.{IsInOrder}
+use Rattle.addr2line_lines.proofs.OrderLemmas.{in_order_ordered}
+use Rattle.addr2line_units.proofs.IndexLemmas.{ends_order}
+use Rattle.addr2line_units.proofs.FramesPassedLemmas.{after_from, passed_from, stop_from}
+use Rattle.addr2line.specs.AfterLookups.{HasPassed}
 use Rattle.addr2line.proofs.ContextLemmas.{at_made, by_made, of_made, still_context}
 
 -- a lookup that passes over faults has none
@@ -27,6 +34,30 @@ pub refused_for_memory : {X : Type 0} (see : X → LookupStop) (u : UnitsState) 
 refused_for_memory see u ranges faults probe (Ok x) p h = tt
 refused_for_memory see u ranges faults probe (Err e) p h =
     only_oom e (λ k. passes_over u.scope u.units u.answers probe ranges e (ap (λ f. stop_of (lookups.Frames f) probe u ranges) (sym p) ∙ k)) h
+
+-- a lookup that goes on at a place asks as one along all units that cover the probe
+module _ (ranges : List UnitRange) (u : UnitsState) (i : IsContext ranges u) (faults : OnFault) (probe : ℕ) (place : Option UnitRange) (passed : HasPassed faults (as_context u) probe place) where
+  cover_up : IsInOrder ends_sooner (cover probe ranges)
+  cover_up = in_order_ordered ends_sooner ends_order (filter (range_covers probe) ranges)
+
+  passed_units : HasPassedTo (lookups.Frames faults) probe u (cover probe ranges) place
+  passed_units = at_made ranges u i (λ s xs rs. HasPassedTo (lookups.Frames faults) probe (record u { scope = s; units = xs }) (cover probe rs) place) passed
+
+  module _ (now : UnitsState) {X : Type 0} (shares : Bool) (r : Result X Error) (w : left.AfterWalkAlong shares (lookups.Frames faults) probe (from_place place (cover probe ranges)) r u now) where
+    pub walked_from : left.AfterWalkAlong shares (lookups.Frames faults) probe (cover probe ranges) r u now
+    walked_from = after_from shares faults probe u now r place (cover probe ranges) cover_up passed_units w
+
+    pub stored_from : (see : X → LookupStop) → ExactlyUnlessOom see r (stop_of (lookups.Frames faults) probe u (from_place place (cover probe ranges))) → ExactlyUnlessOom see r (stop_of (lookups.Frames faults) probe u (cover probe ranges))
+    stored_from see h = subst (ExactlyUnlessOom see r) (stop_from shares faults probe u now r place (cover probe ranges) cover_up passed_units) h
+
+    has_passed : (next : Option UnitRange) → HasPassedTo (lookups.Frames faults) probe now (from_place place (cover probe ranges)) next → HasPassed faults (as_context now) probe next
+    has_passed next more =
+        of_made ranges now (still_context ranges u i now w.asked.scope w.asked.units) (λ s xs rs. HasPassedTo (lookups.Frames faults) probe (record now { scope = s; units = xs }) (cover probe rs) next)
+        (passed_from shares faults probe u now r place (cover probe ranges) cover_up passed_units w next more)
+
+    pub all_passed : (q : Result (Option UnitRange) Error) → IfOk q (HasPassedTo (lookups.Frames faults) probe now (from_place place (cover probe ranges))) → IfOk q (HasPassed faults (as_context now) probe)
+    all_passed (Ok next) h = has_passed next h
+    all_passed (Err e) h = tt
 
 -- the load of the unit of a number
 pub load_told : (ranges : List UnitRange) (u : UnitsState) → IsContext ranges u → (n : ℕ) (r : Result SplitLoad Error) → IfOk r (λ l. option_map (load_of_unit u.scope.file.sections n) (slice_get u.scope.file.units n) ≡ Some (Ok (Some l))) → IfOk r (λ l. IsLoadOf u.scope.file.sections n l)

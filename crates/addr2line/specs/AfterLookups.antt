@@ -2,11 +2,14 @@
 -- parsed for them (DWARF 5, sections 3.1.2, 3.3 and 7.3.2).
 -- Own: a lookup parses only lines that it asks for, and reads nothing of a unit that it doesn't
 -- ask; what is parsed or known stays so.
-use Rattle.std.specs.Prelude.{◌≡◌, ◌⊎◌, ℕ, ◌≤◌, Bool, true, false, slice_get, IfErr, Result, Ok, Err}
+use Rattle.std.specs.Prelude.{◌≡◌, ◌⊎◌, ℕ, ◌≤◌, Bool, true, false, Option, slice_get, IfErr, Result, Ok, Err}
 use Rattle.addr2line.specs.Common.{Error, OutOfMemory, ExactlyUnlessOom, WasNotRefused, OnFault, cover, LookupStop, Waits, LookupAsks, asks_lines_of, function_offset_of, holds_along, is_waiting, main_scope, LearnsDetailsAt, ParsesOnly, StaysParsed, StaysKnown, UnitIndex, index_units, UnitsState, asks_no_memory_at, has_all_at, has_few_at, SplitLoad, Skip}
 use Rattle.addr2line.specs.Context.{ContextState, IsUncovered}
 use Rattle.addr2line.specs.Lookups.{IsFaultOfAsked, asked_of, lookup_stop, IsLoadOf}
 use Rattle.addr2line_lines.specs.LastAddress.{last_address}
+use Rattle.addr2line_units.specs.declared.frames.Asks.TheVariants.{Frames}
+use Rattle.addr2line_units.specs.declared.index.UnitRange.{UnitRange}
+use Rattle.addr2line_units.specs.UnitsAfter.{HasPassedTo}
 
 -- the units of a context
 abbrev pub units_in : ContextState → UnitIndex → UnitsState
@@ -79,6 +82,12 @@ pub record ReadsAsked (faults : OnFault) (probe : ℕ) (old new : ContextState) 
   pub lines : ParsesAsked faults probe new old new
   pub entries : LearnsAsked faults probe new old new
   pub details : LearnsDetails probe new old new
+
+-- a lookup of the probe has passed over the units that cover it before a place: they have nothing,
+-- and all is known that it asks them for
+abbrev pub HasPassed : OnFault → ContextState → ℕ → Option UnitRange → Type 0
+HasPassed faults c probe place = (m : UnitIndex) → index_units c.sections ≡ Ok m
+    → HasPassedTo (Frames faults) probe (units_in c m) (cover probe m.ranges) place
 
 -- after a lookup of the probe: the sections and the first answers are the same, what was parsed or
 -- known stays so, and the steps don't get fewer; no lines were parsed but those that it asks for,

@@ -27,3 +27,4 @@ pub mod LoadsByFiles
 pub mod Loader
 pub mod BorrowedLoader
 pub mod FaultLaws
+pub mod Names

@@ -40,8 +40,8 @@ pub record AfterSkip {X : Type 0} (shares : Bool) (faults : OnFault) (probe : �
 
 -- the same of a lookup that lends nothing: one that passes over faults is refused for memory alone,
 -- and what isn't refused waits for no unit
-pub record AfterSkippingLoads (shares : Bool) (faults : OnFault) (probe : ℕ)
-    (result : Result (Unit {0}) Error) (old new : ContextState) : Type 0 where
+pub record AfterSkippingLoads {X : Type 0} (shares : Bool) (faults : OnFault) (probe : ℕ)
+    (result : Result X Error) (old new : ContextState) : Type 0 where
   pub skip : AfterSkip shares faults probe result old new
   pub refused : faults ≡ Skip → IfErr result (λ e. e ≡ OutOfMemory)
   pub none : OnOk result (waiting_unit new.stop ≡ None)

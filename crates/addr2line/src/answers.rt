@@ -1,12 +1,13 @@
 //! Answers to the loads of units.
 
-ghost use Rattle.std.specs.Prelude.{option_map};
-ghost use Rattle.addr2line.specs.AfterLookups.{IsStored};
+ghost use Rattle.std.specs.Prelude.{IfOk, option_map};
+ghost use Rattle.addr2line.specs.AfterLookups.{HasPassed, IsStored};
 ghost use Rattle.addr2line.specs.Skips.{AfterSkippingLoads};
 ghost use Rattle.addr2line.specs.AfterAnswering.{AfterAnsweringOver};
 
 use crate::context::Context;
 use addr2line_units::frames::OnFault;
+use addr2line_units::index::UnitRange;
 use gimli::Dwarf;
 use gimli::read::{Error, Reader};
 use std::rc::Rc;
@@ -27,15 +28,21 @@ impl<R: Reader> Context<R> {
 
     // Stores what a lookup comes to, where each load that it waits for is answered `None`. What it
     // asks for is read and cached.
-    pub(crate) fn skip_loads(&mut self, probe: u64, faults: OnFault) -> Result<(), Error>
+    pub(crate) fn skip_loads(
+        &mut self,
+        probe: u64,
+        faults: OnFault,
+    ) -> Result<Option<UnitRange>, Error>
         ensures gives { IsStored faults probe result self.new }
         ensures after { AfterSkippingLoads R.shares faults probe result self.old self.new }
+        ensures passed { IfOk result (HasPassed faults self.new probe) }
     {
+        let mut place = None;
         loop {
-            self.walk(probe, faults)?;
+            place = self.walk(place, probe, faults)?;
             match self.waits_for() {
                 Some(number) => self.answer(number, None)?,
-                None => return Ok(()),
+                None => return Ok(place),
             }
         }
     }

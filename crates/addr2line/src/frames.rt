@@ -8,7 +8,7 @@ ghost use Rattle.addr2line.specs.WaitingLookups.{BeginsLookup, SuspendsIn};
 
 use crate::context::Context;
 use crate::kinds::{Lent, LookupKind};
-use crate::suspended::{Suspended, begin};
+use crate::suspended::{Suspended, look_up};
 use addr2line_units::FrameIter;
 use addr2line_units::continuation::LookupResult;
 use addr2line_units::frames::OnFault;
@@ -72,6 +72,6 @@ impl<R: Reader> Context<R> {
         ensures* ends { RestsAs 𝓛 (λ c. c.ctx.ghost_name) R.row R.Reader self.entry result
             (λ o n. AfterFramesOver R.shares Stop probe o self.old n) }
     {
-        begin(self, probe)
+        look_up(self, None, probe)
     }
 }

@@ -14,6 +14,7 @@ mod kinds;
 pub mod laws;
 mod loader;
 mod loads;
+mod names;
 mod opened;
 mod parses;
 mod reply;
@@ -28,6 +29,7 @@ pub use crate::context::Context;
 pub use crate::files::{FileSource, FileStamp, FileTime, HostFiles, MemoryFiles};
 pub use crate::frames::FramesLookup;
 pub use crate::loader::{Loader, LoaderOver};
+pub use crate::names::{Style, demangle_auto_with, demangle_v0};
 pub use crate::opened::open_bytes;
 pub use crate::reply::{
     FoundUnit, OwnedFrame, OwnedLoad, OwnedLocation, OwnedName, OwnedSpan, Reply,

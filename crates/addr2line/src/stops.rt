@@ -3,24 +3,35 @@
 ghost use Rattle.std.specs.Prelude.{◌≡◌, IfErr, IfOk};
 ghost use Rattle.addr2line.specs.Common.{OutOfMemory, frames_left, Waits, frames_found, waiting_unit};
 ghost use Rattle.addr2line_units.specs.SupScope.{as_unit};
-ghost use Rattle.addr2line.specs.AfterLookups.{IsStored, AfterWalk};
+ghost use Rattle.addr2line.specs.AfterLookups.{IsStored, AfterWalk, HasPassed};
 ghost use Rattle.addr2line.specs.Lookups.{IsLoadOf, unit_value, view_found};
 ghost use Rattle.std.specs.Prelude.{option_map};
 
 use crate::context::Context;
 use addr2line_units::FrameIter;
 use addr2line_units::frames::{Asks, OnFault};
+use addr2line_units::index::UnitRange;
 use addr2line_units::unit::SplitDwarfLoad;
 use gimli::UnitRef;
 use gimli::read::{Error, Reader};
 
 impl<R: Reader> Context<R> {
-    // Stores what a lookup of frames or of a unit comes to. What it asks for is read and cached.
-    pub(crate) fn walk(&mut self, probe: u64, faults: OnFault) -> Result<(), Error>
+    // Stores what a lookup of frames or of a unit comes to. What it asks for is read and cached. It
+    // goes on at a place up to which it has asked, or begins where there is none, and gives the one
+    // at which it stops.
+    pub(crate) fn walk(
+        &mut self,
+        place: Option<UnitRange>,
+        probe: u64,
+        faults: OnFault,
+    ) -> Result<Option<UnitRange>, Error>
+        requires passed { HasPassed faults self.old probe place }
         ensures gives { IsStored faults probe result self.new }
         ensures after { AfterWalk R.shares faults probe result self.old self.new }
+        ensures passed { IfOk result (HasPassed faults self.new probe) }
     {
-        let ranges = self.ranges.find(probe);
+        let mut ranges = self.ranges.find(probe);
+        ranges.skip_to(place);
         self.units.walk(ranges, probe, Asks::Frames(faults))
     }
 

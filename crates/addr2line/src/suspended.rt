@@ -1,10 +1,10 @@
 //! What is left of a lookup that waits for a split file: it goes on, is skipped, or is let go.
 
-ghost use Rattle.std.specs.Prelude.{◌≡◌, Some, IfErr, option_map, true};
-ghost use Rattle.addr2line.specs.Common.{OutOfMemory, ExactlyUnlessOom, Skip, Resumes};
+ghost use Rattle.std.specs.Prelude.{◌≡◌, Some, IfErr, IfOk, option_map, true};
+ghost use Rattle.addr2line.specs.Common.{OutOfMemory, ExactlyUnlessOom, fault_of, Skip, Resumes};
 ghost use Rattle.addr2line.specs.AfterAnswering.{AfterResume};
 ghost use Rattle.addr2line.specs.Borrowed.{RestsAs};
-ghost use Rattle.addr2line.specs.AfterLookups.{AfterFramesOver, IsLent, IsStored};
+ghost use Rattle.addr2line.specs.AfterLookups.{AfterFramesOver, HasPassed, IsLent, IsStored};
 ghost use Rattle.addr2line.specs.Lookups.{lookup_stop, waits_for};
 ghost use Rattle.addr2line.specs.Skips.{AfterSkip};
 ghost use Rattle.addr2line.specs.WaitingLookups.{BeginsLookup, HoldsIn, SuspendsAgainIn, SuspendsIn, WaitsOrGives, count_loads, found_answered, found_of_context, found_skipped, found_with_none};
@@ -12,6 +12,7 @@ ghost use Rattle.addr2line.specs.WaitingLookups.{BeginsLookup, HoldsIn, Suspends
 use crate::context::Context;
 use crate::kinds::{Lent, LookupKind};
 use addr2line_units::continuation::{LookupContinuation, LookupResult};
+use addr2line_units::index::UnitRange;
 use addr2line_units::unit::SplitDwarfLoad;
 use gimli::Dwarf;
 use gimli::read::{Error, Reader};
@@ -26,10 +27,13 @@ pub struct Suspended<'ctx, R: Reader, K: LookupKind, B> {
     pub(crate) ctx: &'ctx mut Context<R>,
     pub(crate) probe: u64,
     pub(crate) number: usize,
+    // The range at which it waits.
+    pub(crate) place: Option<UnitRange>,
     pub(crate) load: B,
     pub(crate) kind: PhantomData<K>,
     ghost stands: { waits_for number
         (lookup_stop K.faults ctx.now.sections ctx.now.answers probe) ≡ true },
+    ghost passed: { HasPassed K.faults ctx.now probe place },
 }
 
 impl<'ctx, R: Reader, K: LookupKind, B: Drop> Drop for Suspended<'ctx, R, K, B> {
@@ -40,6 +44,7 @@ impl<'ctx, R: Reader, K: LookupKind, B: Drop> Drop for Suspended<'ctx, R, K, B> 
             ctx: _,
             probe: _,
             number: _,
+            place: _,
             load: _,
             kind: _,
         } = self;
@@ -63,6 +68,7 @@ impl<'ctx, R: Reader, K: LookupKind, B: Drop> Suspended<'ctx, R, K, B> {
             ctx: _,
             probe: _,
             number: _,
+            place: _,
             load,
             kind: _,
         } = self;
@@ -105,11 +111,12 @@ impl<'ctx, R: Reader, K: Lent<'ctx, Context<R>>> LookupContinuation
             ctx,
             probe,
             number,
+            place,
             load: _,
             kind: _,
         } = self;
         match ctx.answer(number, input) {
-            Ok(()) => begin(ctx, probe),
+            Ok(()) => look_up(ctx, place, probe),
             Err(error) => LookupResult::Output(Err(error)),
         }
     }
@@ -131,6 +138,7 @@ impl<'ctx, R: Reader, K: Lent<'ctx, Context<R>>, B: Drop> Suspended<'ctx, R, K, 
             ctx,
             probe,
             number: _,
+            place: _,
             load: _,
             kind: _,
         } = self;
@@ -144,23 +152,25 @@ impl<'ctx, R: Reader, K: Lent<'ctx, Context<R>>, B: Drop> Suspended<'ctx, R, K, 
 fn lend<'ctx, R: Reader, K: Lent<'ctx, Context<R>>>(
     ctx: &'ctx mut Context<R>,
     probe: u64,
-    walked: Result<(), Error>,
+    walked: Result<Option<UnitRange>, Error>,
 ) -> LookupResult<Suspended<'ctx, R, K, SplitDwarfLoad<R>>>
     requires stored { IsStored K.faults probe walked ctx.old }
+    requires passed { IfOk walked (HasPassed K.faults ctx.old probe) }
     requires refused { K.faults ≡ Skip → IfErr walked (λ e. e ≡ OutOfMemory) }
     ensures* ends { RestsAs 𝓛 (λ c. c.ctx.ghost_name) R.row R.Reader ctx.entry result
-        (λ o n. (n ≡ ctx.old) × IsLent walked ctx.old.stop o) }
+        (λ o n. (n ≡ ctx.old) × IsLent (fault_of walked) ctx.old.stop o) }
     ensures gives { WaitsOrGives K.faults K.see (found_of_context K.faults K.value_of ctx.old probe)
-        result (λ c. HoldsIn ctx.entry probe walked c.ctx c.probe c.number c.load) }
+        result (λ c. HoldsIn ctx.entry probe (fault_of walked) c.ctx c.probe c.number c.load) }
 {
     match walked {
-        Ok(()) => match ctx.waits_for() {
+        Ok(place) => match ctx.waits_for() {
             Some(number) => match ctx.load_of(number) {
                 Ok(load) => LookupResult::Load {
                     continuation: Suspended {
                         ctx,
                         probe,
                         number,
+                        place,
                         load,
                         kind: PhantomData,
                     },
@@ -173,17 +183,20 @@ fn lend<'ctx, R: Reader, K: Lent<'ctx, Context<R>>>(
     }
 }
 
-// A lookup from its beginning, by what is cached.
+// A lookup by what is cached, which goes on at a place up to which it has asked, or begins where
+// there is none.
 #[inline(always)]
-pub(crate) fn begin<'ctx, R: Reader, K: Lent<'ctx, Context<R>>>(
+pub(crate) fn look_up<'ctx, R: Reader, K: Lent<'ctx, Context<R>>>(
     ctx: &'ctx mut Context<R>,
+    place: Option<UnitRange>,
     probe: u64,
 ) -> LookupResult<Suspended<'ctx, R, K, SplitDwarfLoad<R>>>
+    requires passed { HasPassed K.faults ctx.old probe place }
     ensures* ends { RestsAs 𝓛 (λ c. c.ctx.ghost_name) R.row R.Reader ctx.entry result
         (λ o n. AfterFramesOver R.shares K.faults probe o ctx.old n) }
     ensures gives { BeginsLookup K.faults K.value_of K.see ctx.old probe result
         (λ c. SuspendsIn K.faults ctx.entry probe c.ctx c.probe c.number c.load) }
 {
-    let walked = ctx.walk(probe, K::on_fault());
+    let walked = ctx.walk(place, probe, K::on_fault());
     lend(ctx, probe, walked)
 }

@@ -1,6 +1,6 @@
 -- Lemmas on the words of the command line (specs/CommandLine): matches and their rows, and faults.
-use Rattle.addr2line_bin.proofs.Common.{◌≡◌, ◌∙◌, ap, refl, sym, subst, inl, inr, true, false, ℕ, List, [], Bor, Result, Ok, Err, IfErr, IfOk, IsErrAnd, Option, Some, None, IsSomeAnd, MatchOption, option_map, option_copied, whole_command}
-use Rattle.std.specs.Prelude.{is_some}
+use Rattle.addr2line_bin.proofs.Common.{◌≡◌, ◌∙◌, ap, refl, sym, subst, inl, inr, true, false, ℕ, List, [], Bor, Result, Ok, Err, IfErr, IfOk, IsErrAnd, Option, Some, None, IsSomeAnd, MatchOption, codes, cond, map, option_map, option_copied, whole_command}
+use Rattle.std.specs.Prelude.{◌&&◌, Bool, is_ok, is_some, not}
 use Rattle.clap.specs.Words.{App, Rule, Text, is_simple, is_simple_and_free, takes, with_rule}
 use Rattle.clap.specs.Words.{HasKind, IsAmong, Kinds, fault_of, kind_of}
 use Rattle.clap.specs.Words.{Row, all_of, first_of, first_value, matched_of, matches_of, raw_values, rows_of}
@@ -8,8 +8,10 @@ use Rattle.clap.specs.declared.error.Error.{Error}
 use Rattle.clap.specs.declared.error.kind.ErrorKind.TheVariants as kind
 use Rattle.clap.specs.declared.parser.matches.Found.{Found}
 use Rattle.clap.proofs.WalkLemmas.{first_value-rows, raw_values-rows}
-use Rattle.addr2line_bin.specs.CommandLine.{IsFaultOf, IsUnasked, IsWordFault, is_complete}
+use Rattle.addr2line_bin.specs.CommandLine.{IsFaultOf, IsUnasked, IsWordFault, asks_recursion, exe_beside, is_complete, is_on, output_of, styled_word}
+use Rattle.addr2line_bin.specs.CommandLine.{exe_in}
 use Rattle.addr2line_bin.specs.CommandLine.{are_taken, faults_in, matches_in}
+use Rattle.addr2line_bin.specs.declared.command_line.Misuse.TheVariants as misuse
 use Rattle.addr2line_bin.specs.declared.command_line.WordFault.{WordFault}
 use Rattle.addr2line_bin.specs.declared.command_line.WordFault.TheVariants as fault
 
@@ -37,19 +39,22 @@ is_simple_by a e = ap is_simple e ∙ refl
 pub is_free_by : (a : App) → a ≡ whole_command → is_simple_and_free a ≡ true
 is_free_by a e = ap is_simple_and_free e ∙ refl
 
-pub taken_by : (a : App) (words : List Text) → a ≡ whole_command → are_taken words ≡ true
-    → takes a words ≡ true
+pub taken_by : (a : App) (words styled : List Text) → a ≡ whole_command
+    → styled ≡ map styled_word words → are_taken words ≡ true → takes a styled ≡ true
 unfolding are_taken
-taken_by a words e h = ap (λ b. takes b words) e ∙ h
+taken_by a words styled e same h = ap (takes a) same ∙ ap (λ b. takes b (map styled_word words)) e ∙ h
 
-pub matches_by : (a : App) (words : List Text) (rows : List Row) → a ≡ whole_command
-    → rows ≡ matches_of a words → rows ≡ matches_in words
+pub matches_by : (a : App) (words styled : List Text) (rows : List Row) → a ≡ whole_command
+    → styled ≡ map styled_word words → rows ≡ matches_of a styled → rows ≡ matches_in words
 unfolding matches_in
-matches_by a words rows e h = h ∙ ap (λ b. matches_of b words) e
+matches_by a words styled rows e same h =
+    h ∙ ap (matches_of a) same ∙ ap (λ b. matches_of b (map styled_word words)) e
 
-pub faults_by : (a : App) (words : List Text) → a ≡ whole_command → fault_of a words ≡ faults_in words
+pub faults_by : (a : App) (words styled : List Text) → a ≡ whole_command
+    → styled ≡ map styled_word words → fault_of a styled ≡ faults_in words
 unfolding faults_in
-faults_by a words e = ap (λ b. fault_of b words) e
+faults_by a words styled e same =
+    ap (fault_of a) same ∙ ap (λ b. fault_of b (map styled_word words)) e
 
 -- ---- faults of words
 
@@ -61,17 +66,37 @@ word_fault_of kinds words x e same (inl k) (inr m) = absurd (m.0 k)
 word_fault_of kinds words x e same (inr k) (inr m) =
     subst (IsWordFault words) (sym m.1) (subst (IsAmong (kind_of x)) same k)
 
--- so are words without a value of `-e`, or with `--all` beside an address
+-- so are words that ask for nothing
 pub unasked_fault : (words : List Text) (e : WordFault) → faults_in words ≡ []
     → IsUnasked (matches_in words) e → IsWordFault words e
 unasked_fault words e h (inl m) = subst (IsWordFault words) (sym m) tt
-unasked_fault words e h (inr m) = subst (IsWordFault words) (sym m.0) (h, m.1)
+unasked_fault words e h (inr m) = subst (IsWordFault words) (sym m.1) (h, m.2)
 
 -- complete matches miss memory alone
 pub complete_fault : (rows : List Row) (e : WordFault) → IsUnasked rows e → is_complete rows ≡ true
     → e ≡ fault.OutOfMemory
 complete_fault rows e (inl m) h = m
-complete_fault rows e (inr m) h = let no : true ≡ false = sym h ∙ m.1 in absurd cc
+complete_fault rows e (inr m) h =
+    let no : true ≡ false = sym h ∙ ap is_ok m.2 in absurd cc
+
+-- complete matches with address words haven't `--all`
+pub all_alone : (rows : List Row) → is_complete rows ≡ true → (texts : List Text)
+    → all_of (codes "probes") rows ≡ Some texts → is_on (codes "all") rows ≡ false
+unfolding exe_in
+all_alone rows h texts e =
+    pick (asks_recursion rows) (not (is_some (output_of rows))) (is_on (codes "demangle-other") rows)
+    (is_on (codes "all") rows) (is_some (all_of (codes "probes") rows)) (first_of (codes "exe") rows) h (ap is_some e)
+  where
+    pick : (a b c d f : Bool) (path : Option Text)
+        → is_ok (cond a (Err misuse.RecursionLimit) (cond b (Err misuse.OutputStyle) (cond c (Err misuse.NameStyle) (exe_beside (d && f) path)))) ≡ true
+        → f ≡ true → d ≡ false
+    pick true b c d f path h k = let no : false ≡ true = h in absurd cc
+    pick false true c d f path h k = let no : false ≡ true = h in absurd cc
+    pick false false true d f path h k = let no : false ≡ true = h in absurd cc
+    pick false false false d f None h k = let no : false ≡ true = h in absurd cc
+    pick false false false true true (Some path) h k = let no : false ≡ true = h in absurd cc
+    pick false false false true false (Some path) h k = let no : false ≡ true = k in absurd cc
+    pick false false false false f (Some path) h k = refl
 
 -- words that the command takes miss memory alone
 pub taken_fault : (x : Error) (e : WordFault) → kind_of x ≡ kind.OutOfMemory → IsFaultOf x e

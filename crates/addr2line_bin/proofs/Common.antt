@@ -9,7 +9,7 @@ pub use Rattle.addr2line_units.specs.FramesLeft.{frames_left}
 pub use Rattle.addr2line.specs.Loader.{AfterLoads, AfterLocation, AfterLocationRange, LoaderState, as_loader}
 pub use Rattle.addr2line_bin.specs.Address.{is_hex, probes_in, without_hex_prefix}
 unfoldable pub use Rattle.addr2line_bin.specs.Address.{address_in}
-pub use Rattle.addr2line_bin.specs.Command.{address_words, long_option, long_switch, option, switch, whole_command, with_lookup_options, with_style_options}
+pub use Rattle.addr2line_bin.specs.Command.{address_words, long_option, long_switch, option, switch, version_letter, whole_command, with_lookup_options, with_name_styles, with_passed_options, with_style_options}
 pub use Rattle.addr2line_bin.specs.FileAnswers.{FileAnswers, StaysAnswered}
 pub use Rattle.addr2line_bin.specs.InputLines.{AreFirstLines, AreLines, AreLinesToFault, AreLinesToRefusal, InputState, IsInputEnd, ReadsLine, StartKnown, StartWith, TakesLine, TakesPart, line_probes}
 pub use Rattle.addr2line_bin.specs.Printing.{EndsAt, EndsEarly, IsCutAtRead, IsCutOff, PrintsOf, PrintsReadUnlessStopped, PrintsRun, PrintsUnlessStopped, TextOf}

@@ -11,3 +11,5 @@ pub mod FrameLemmas
 pub mod LineLemmas
 pub mod AddressListLemmas
 pub mod LoaderLemmas
+pub mod JsonLemmas
+pub mod WordLemmas

@@ -43,10 +43,14 @@ address_text style probe = if style.addresses
 abbrev pub basename_of : List ℕ → List ℕ
 basename_of path = unwrap_or (path_file_name path) path
 
+-- a path
+abbrev pub shown_path : Style → List ℕ → List ℕ
+shown_path style path = if style.basenames then basename_of path else path
+
 -- a file
 abbrev pub shown_file : Style → Option (List ℕ) → List ℕ
 shown_file style None = codes "??"
-shown_file style (Some path) = if style.basenames then basename_of path else path
+shown_file style (Some path) = shown_path style path
 
 -- a line, or `?`
 abbrev pub line_text : Option ℕ → List ℕ

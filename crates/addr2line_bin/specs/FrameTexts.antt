@@ -5,19 +5,18 @@
 use Rattle.std.specs.Prelude.{ℕ, List, [], ◌∷◌, ◌++◌, Option, Some, None, codes, option_map, unwrap_or, if◌then◌else◌}
 use Rattle.std.specs.Option.{option_or}
 use Rattle.addr2line_bin.specs.Common.{FrameRecord, NameRecord}
-use Rattle.addr2line_units.specs.LegacyText.{demangled_auto}
-use Rattle.addr2line_units.specs.FramesLent.{name_text, raw_text}
+use Rattle.addr2line.specs.Names.{shown_name}
+use Rattle.addr2line_units.specs.FramesLent.{raw_text}
 use Rattle.addr2line_bin.specs.declared.options.Style.{Style}
 use Rattle.addr2line_bin.specs.AddressTexts.{location_text}
 
 -- a function's name
 abbrev pub function_name : Style → NameRecord → List ℕ
-function_name style n = if style.demangle then name_text n else raw_text n
+function_name style n = shown_name style.names (option_map (λ l. l.0) n.language) (raw_text n)
 
 -- a symbol's name
 abbrev pub symbol_name : Style → List ℕ → List ℕ
-symbol_name style name =
-    if style.demangle then unwrap_or (demangled_auto None name) name else name
+symbol_name style name = shown_name style.names None name
 
 -- the symbol's name where no frame follows
 abbrev pub symbol_before : Option (List ℕ) → List FrameRecord → Option (List ℕ)

@@ -3,6 +3,7 @@ pub mod Put
 pub mod Address
 pub mod AddressTexts
 pub mod FrameTexts
+pub mod JsonTexts
 pub mod FileAnswers
 pub mod LoaderAnswers
 pub mod ProbeTexts
@@ -17,4 +18,5 @@ pub mod Told
 pub mod AllAddresses
 pub mod ProgramRun
 pub mod WordAnswers
+pub mod ResponseFiles
 pub mod WholeRun

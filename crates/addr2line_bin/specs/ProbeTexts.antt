@@ -11,6 +11,7 @@ use Rattle.addr2line_bin.specs.declared.probe_text.Texts.{Texts}
 use Rattle.addr2line_bin.specs.AddressTexts.{address_text, fault_line, location_text, probe_end}
 use Rattle.addr2line_bin.specs.FileAnswers.{FileAnswers}
 use Rattle.addr2line_bin.specs.FrameTexts.{frames_text, missing_text, symbol_name}
+use Rattle.addr2line_bin.specs.JsonTexts.{json_line}
 use Rattle.addr2line_bin.specs.Print.{ProbeText}
 
 -- the address in a section at an offset, none past its size
@@ -82,11 +83,37 @@ IsAnswerAt answers c (Some address) found fault = (given : ProbeAnswer)
     × MayBeGiven answers c.style address given
     × (found ≡ given_text c.style given) × (fault ≡ given_fault c.name.now address given)
 
--- what goes to both streams for what is asked for, if that is an address
-pub record IsText (answers : FileAnswers) (c : RunContext) (probe : Option ℕ) (text : ProbeText)
+-- the object of JSON of what is asked for, by the address that is looked up, if there is one, and
+-- the line of a fault
+abbrev pub IsObjectAt : FileAnswers → RunContext → Option ℕ → Option ℕ → ProbeText → Type 0
+IsObjectAt answers c probe None text =
+    (text.out ≡ json_line c.style probe None (Ok [])) × (text.err ≡ [])
+IsObjectAt answers c probe (Some address) text = (frames : Loading (List FrameRecord))
+    × answers.MayGive address frames
+    × (text.out ≡ json_line c.style probe
+    (option_map (symbol_name c.style) (answers.symbol_at address)) frames)
+    × (text.err ≡ fault_text c.name.now (codes "frames") address frames)
+
+-- such an object, and the line of a fault, are added to both texts
+abbrev pub AddsObject : FileAnswers → RunContext → Option ℕ → Option ℕ → Texts → Texts → Type 0
+AddsObject answers c probe address old new = (text : ProbeText) × IsObjectAt answers c probe address text
+    × (string_bytes new.out ≡ string_bytes old.out ++ text.out)
+    × (string_bytes new.err ≡ string_bytes old.err ++ text.err)
+
+-- the lines of what is asked for, if that is an address
+pub record IsLines (answers : FileAnswers) (c : RunContext) (probe : Option ℕ) (text : ProbeText)
     : Type 0 where
   pub found : List ℕ
   pub fault : List ℕ
   pub given : IsAnswerAt answers c (looked_up c.section probe) found fault
   pub out : text.out ≡ address_text c.style probe ++ (found ++ probe_end c.style)
   pub err : text.err ≡ fault
+
+-- an object of JSON or lines
+abbrev pub IsTextBy : Bool → FileAnswers → RunContext → Option ℕ → ProbeText → Type 0
+IsTextBy true answers c probe text = IsObjectAt answers c probe (looked_up c.section probe) text
+IsTextBy false answers c probe text = IsLines answers c probe text
+
+-- what goes to both streams for what is asked for, if that is an address
+abbrev pub IsText : FileAnswers → RunContext → Option ℕ → ProbeText → Type 0
+IsText answers c probe text = IsTextBy c.style.json answers c probe text

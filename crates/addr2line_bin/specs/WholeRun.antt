@@ -1,7 +1,7 @@
 -- The whole run: from the words of the command line to the status of the program.
 -- Own: where the words can't be had, the program has the name that it has without any, and they are
 -- misuse unless memory was refused for them.
-use Rattle.std.specs.Prelude.{◌≡◌, ◌≢◌, ◌⊎◌, ℕ, [], Option, IfOk, IfSome, Result, Ok, Err, Vec}
+use Rattle.std.specs.Prelude.{◌≡◌, ◌≢◌, ◌⊎◌, ℕ, true, false, List, [], Option, IfOk, IfSome, Result, Ok, Err, Vec}
 use Rattle.std.specs.Prelude.{is_some, option_map, string_bytes}
 use Rattle.std.specs.declared.string.String.{String}
 use Rattle.std.specs.declared.alloc.Global.{Global}
@@ -20,6 +20,7 @@ use Rattle.addr2line_bin.specs.Print.{last_text}
 use Rattle.addr2line_bin.specs.ProgramName.{program_name}
 use Rattle.addr2line_bin.specs.ProgramRun.{IsRun, OnlyFails, status_at}
 use Rattle.addr2line_bin.specs.Put.{OnlyReports, StreamState}
+use Rattle.addr2line_bin.specs.ResponseFiles.{expanded, has_response}
 use Rattle.addr2line_bin.specs.Told.{usage_text}
 use Rattle.addr2line_bin.specs.WordAnswers.{AnswersFault, TellsNoMemory}
 use Rattle.addr2line_bin.specs.declared.command_line.Request.{Request}
@@ -52,18 +53,41 @@ RunsWith {F} known files request state (Ok input) oo on eo en e = (inn : InputSt
 RunsWith known files request state (Err _) oo on eo en e =
     OnlyFails oo on eo en (last_text (string_bytes request.options.name) stop.OutOfMemory) e
 
--- words are answered: what they ask for is printed, or why there is nothing that they ask for; or
--- it is told that there are no words
+-- words are answered: what they ask for is printed, or why there is nothing that they ask for
+abbrev pub AnswersTaken : {F I : Type 0} → (F → Option Files) → F → List (String Global)
+    → (I → InputState) → Result I AllocError → StreamState → StreamState → StreamState
+    → StreamState → ℕ → Type 0
+AnswersTaken known files words state input oo on eo en status =
+    ((request : Request) × IsRequest words request
+    × ((e : Exit) × RunsWith known files request state input oo on eo en e
+    × (status ≡ status_at e)))
+    ⊎ ((fault : WordFault) × IsWordFault (texts_in words) fault
+    × WantsMemoryAlone (texts_in words) fault
+    × AnswersFault (program_name words) fault oo on eo en status)
+
+-- the words with those of files: as these are, where they are known; where no word names such a
+-- file, the words themselves
+pub record AreExpanded {F : Type 0}
+    (known : F → Option Files) (files : F) (words taken : List (String Global)) : Type 0 where
+  pub gives : IfSome (known files) (λ held. texts_in taken ≡ expanded held (texts_in words))
+  pub none : has_response (texts_in words) ≡ false → taken ≡ words
+
+-- words are answered with those of files, or memory was refused for these
+abbrev pub AnswersGiven : {F I : Type 0} → (F → Option Files) → F → List (String Global)
+    → (I → InputState) → Result I AllocError → StreamState → StreamState → StreamState
+    → StreamState → ℕ → Type 0
+AnswersGiven known files words state input oo on eo en status =
+    ((taken : List (String Global)) × AreExpanded known files words taken
+    × AnswersTaken known files taken state input oo on eo en status)
+    ⊎ ((has_response (texts_in words) ≡ true)
+    × TellsNoMemory (program_name words) oo on eo en status)
+
+-- words are answered, or it is told that there are none
 abbrev pub IsWholeRun : {F I : Type 0} → (F → Option Files) → F
     → Result (Vec (String Global) Global) ErrorKind → (I → InputState) → Result I AllocError
     → StreamState → StreamState → StreamState → StreamState → ℕ → Type 0
 IsWholeRun known files (Ok words) state input oo on eo en status =
-    ((request : Request) × IsRequest words.items request
-    × ((e : Exit) × RunsWith known files request state input oo on eo en e
-    × (status ≡ status_at e)))
-    ⊎ ((fault : WordFault) × IsWordFault (texts_in words.items) fault
-    × WantsMemoryAlone (texts_in words.items) fault
-    × AnswersFault (program_name words.items) fault oo on eo en status)
+    AnswersGiven known files words.items state input oo on eo en status
 IsWholeRun known files (Err fault) state input oo on eo en status =
     ((fault ≡ kind.OutOfMemory) × TellsNoMemory (program_name []) oo on eo en status)
     ⊎ ((fault ≢ kind.OutOfMemory)

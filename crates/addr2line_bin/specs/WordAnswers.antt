@@ -10,7 +10,7 @@ use Rattle.addr2line_bin.specs.Put.{OnlyReports, Reports, StreamState, WritesPre
 use Rattle.addr2line_bin.specs.Print.{exit_at, last_text}
 use Rattle.addr2line_bin.specs.ProgramRun.{status_at}
 use Rattle.addr2line_bin.specs.Stopped.{IsFault}
-use Rattle.addr2line_bin.specs.Told.{usage_text}
+use Rattle.addr2line_bin.specs.Told.{misuse_text}
 use Rattle.addr2line_bin.specs.declared.exit.TheConstants.{DONE_STATUS, FAILED_STATUS, USAGE_STATUS}
 use Rattle.addr2line_bin.specs.declared.command_line.WordFault.{WordFault}
 use Rattle.addr2line_bin.specs.declared.command_line.WordFault.TheVariants as fault
@@ -58,6 +58,6 @@ abbrev pub AnswersFault : List ℕ → WordFault → StreamState → StreamState
     → StreamState → ℕ → Type 0
 AnswersFault name (fault.Clap e) oo on eo en status =
     AnswersWords name (is_help_or_version (kind_of e)) oo on eo en status
-AnswersFault name fault.Usage oo on eo en status =
-    OnlyReports oo on eo en (usage_text name) × (status ≡ USAGE_STATUS)
+AnswersFault name (fault.Misuse why) oo on eo en status =
+    OnlyReports oo on eo en (misuse_text name why) × (status ≡ USAGE_STATUS)
 AnswersFault name fault.OutOfMemory oo on eo en status = TellsNoMemory name oo on eo en status

@@ -5,7 +5,7 @@ ghost use Rattle.std.specs.Option.{option_copied};
 ghost use Rattle.addr2line_bin.specs.Common.{as_location};
 ghost use Rattle.addr2line_bin.specs.AddressTexts.{address_ending, address_text, basename_of, digits_text};
 ghost use Rattle.addr2line_bin.specs.AddressTexts.{fault_line, fault_reason, fault_subject, fault_topic};
-ghost use Rattle.addr2line_bin.specs.AddressTexts.{shown_file, hex_digits, line_text};
+ghost use Rattle.addr2line_bin.specs.AddressTexts.{shown_file, shown_path, hex_digits, line_text};
 ghost use Rattle.addr2line_bin.specs.AddressTexts.{location_text, nowhere_text, place_text, probe_end};
 
 use crate::options::Style;
@@ -14,8 +14,8 @@ use elf::LoaderError;
 use std::alloc::AllocError;
 use std::path::Path;
 
-// Adds an address in lower case hexadecimal digits.
-fn push_hex(text: &mut String, address: u64) -> Result<(), AllocError>
+/// Adds an address in lower case hexadecimal digits.
+pub fn push_hex(text: &mut String, address: u64) -> Result<(), AllocError>
     ensures gives { OnOk result (string_bytes text.new
         ≡ string_bytes text.old ++ hex_digits address) }
 {
@@ -63,6 +63,17 @@ fn basename_of(path: &str) -> &str
     Path::new(path).file_name().unwrap_or(path)
 }
 
+/// A path as it is printed.
+pub fn shown_path(style: Style, path: &str) -> &str
+    ensures gives { result.now ≡ shown_path style path.now }
+{
+    if style.basenames {
+        basename_of(path)
+    } else {
+        path
+    }
+}
+
 // Adds a file.
 fn push_file(text: &mut String, style: Style, file: Option<&str>) -> Result<(), AllocError>
     ensures gives { OnOk result (string_bytes text.new
@@ -70,8 +81,7 @@ fn push_file(text: &mut String, style: Style, file: Option<&str>) -> Result<(), 
 {
     match file {
         None => text.push_str("??"),
-        Some(path) if style.basenames => text.push_str(basename_of(path)),
-        Some(path) => text.push_str(path),
+        Some(path) => text.push_str(shown_path(style, path)),
     }
 }
 

@@ -14,12 +14,12 @@ ghost use Rattle.addr2line_bin.specs.FrameTexts.{symbol_name};
 use crate::address_text::push_location;
 use crate::options::Style;
 use addr2line::gimli::read::{Error, Reader};
-use addr2line::{Frame, FrameIter, FunctionName, demangle_auto};
+use addr2line::{Frame, FrameIter, FunctionName, demangle_auto_with};
 use std::alloc::{AllocError, Global};
 use std::borrow::CowStr;
 
-// A function's name as it is printed.
-fn function_name<'ctx, R: Reader>(
+/// A function's name as it is printed.
+pub fn function_name<'ctx, R: Reader>(
     alloc: Global,
     style: Style,
     function: &FunctionName<'ctx, R>,
@@ -27,10 +27,10 @@ fn function_name<'ctx, R: Reader>(
     ensures gives { IfOk result (λ text. cow_str_bytes text
         ≡ function_name style (as_name R.section function.now)) }
 {
-    if style.demangle {
-        function.demangle(alloc)
-    } else {
-        function.raw_name(alloc)
+    let name = function.raw_name(alloc)?;
+    match style.names {
+        Some(names) => demangle_auto_with(alloc, name, function.language, names),
+        None => Ok(name),
     }
 }
 
@@ -38,10 +38,10 @@ fn function_name<'ctx, R: Reader>(
 pub fn symbol_name(alloc: Global, style: Style, name: &str) -> Result<String, AllocError>
     ensures gives { IfOk result (λ text. string_bytes text ≡ symbol_name style name.now) }
 {
-    if !style.demangle {
+    let Some(names) = style.names else {
         return String::from_str(alloc, name);
-    }
-    match demangle_auto(alloc, CowStr::Borrowed(name), None) {
+    };
+    match demangle_auto_with(alloc, CowStr::Borrowed(name), None, names) {
         Ok(text) => text.into_owned(alloc),
         Err(_) => Err(AllocError),
     }
@@ -105,8 +105,8 @@ fn push_frame<R: Reader>(
     push_location(text, style, frame.location)
 }
 
-// The next frame.
-fn next_frame<'ctx, R: Reader>(frames: &mut FrameIter<'ctx, R>) -> Option<Frame<'ctx, R>>
+/// The next frame.
+pub fn next_frame<'ctx, R: Reader>(frames: &mut FrameIter<'ctx, R>) -> Option<Frame<'ctx, R>>
     ensures gives { frames_left frames.old
         ≡ next_and (option_map (as_frame R.section) result) (frames_left frames.new) }
 {
@@ -116,8 +116,8 @@ fn next_frame<'ctx, R: Reader>(frames: &mut FrameIter<'ctx, R>) -> Option<Frame<
     }
 }
 
-// The symbol's name where no frame follows.
-fn symbol_before<'a, R: Reader>(
+/// The symbol's name where no frame follows.
+pub fn symbol_before<'a, R: Reader>(
     symbol: Option<&'a str>,
     next: &Option<Frame<'_, R>>,
 ) -> Option<&'a str>

@@ -9,12 +9,14 @@ mod command_line;
 mod exit;
 mod frame_text;
 mod input;
+mod json_text;
 mod lookups;
 mod options;
 mod printing;
 mod probe_text;
 mod program;
 mod program_name;
+mod response_files;
 mod stream;
 #[cfg(test)]
 mod tests;

@@ -1,6 +1,6 @@
 //! What is asked of the program.
 
-use addr2line::Range;
+use addr2line::{Range, Style as NameStyle};
 use std::alloc::Global;
 
 /// The addresses that are asked for.
@@ -40,10 +40,12 @@ pub struct Style {
     pub addresses: bool,
     /// Whether only the last part of a path is printed.
     pub basenames: bool,
-    /// Whether names are demangled.
-    pub demangle: bool,
+    /// Which names are demangled, if any are.
+    pub names: Option<NameStyle>,
     /// Whether the texts are LLVM's.
     pub llvm: bool,
+    /// Whether each address is an object of JSON.
+    pub json: bool,
 }
 
 /// What is the same for each address of a run.

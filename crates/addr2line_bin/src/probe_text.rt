@@ -1,16 +1,20 @@
 //! The texts of an address that is asked for.
 
-ghost use Rattle.std.specs.Prelude.{◌≡◌, ◌++◌, [], IfOk, List, ℕ, OnOk, option_map, string_bytes};
+ghost use Rattle.std.specs.Prelude.{◌≡◌, ◌++◌, [], IfOk, List, ℕ, OnOk, codes, option_map, string_bytes};
 ghost use Rattle.std.specs.Option.{option_copied};
 ghost use Rattle.addr2line_bin.specs.Common.{result_map, as_location};
 ghost use Rattle.addr2line_units.specs.FramesLeft.{frames_left};
 ghost use Rattle.addr2line_bin.specs.FileAnswers.{StaysAnswered};
 ghost use Rattle.addr2line_bin.specs.ProbeTexts.{AddsAnswer, GivesFrames, GivesLocation};
 ghost use Rattle.addr2line_bin.specs.ProbeTexts.{IsAnswerAt, IsText, asked_symbol};
-ghost use Rattle.addr2line_bin.specs.ProbeTexts.{asks_frames, looked_up, offset_in};
+ghost use Rattle.addr2line_bin.specs.ProbeTexts.{AddsObject, asks_frames, fault_text, looked_up};
+ghost use Rattle.addr2line_bin.specs.ProbeTexts.{offset_in};
+ghost use Rattle.addr2line_bin.specs.FrameTexts.{symbol_name};
+ghost use Rattle.addr2line_bin.specs.JsonTexts.{json_line};
 
 use crate::address_text::{push_address, push_fault, push_location, push_probe_end};
 use crate::frame_text::{push_frames, push_missing, symbol_name};
+use crate::json_text::{push_fault_object, push_missing_object, push_object};
 use crate::lookups::Lookups;
 use crate::options::{RunContext, Style};
 use addr2line::gimli::read::Reader;
@@ -101,7 +105,7 @@ fn push_found_frames<R: Reader>(
 }
 
 // The symbol's name as it is printed, where functions are printed.
-fn symbol_of<L: Lookups>(
+fn asked_symbol<L: Lookups>(
     context: &RunContext<'_>,
     lookups: &L,
     address: u64,
@@ -109,9 +113,22 @@ fn symbol_of<L: Lookups>(
     ensures gives { IfOk result (λ symbol. option_map string_bytes symbol
         ≡ asked_symbol context.now.style ((L.answers lookups.now).symbol_at address)) }
 {
-    if !context.style.functions {
-        return Ok(None);
+    if context.style.functions {
+        symbol_of(context, lookups, address)
+    } else {
+        Ok(None)
     }
+}
+
+// The symbol's name as it is printed.
+fn symbol_of<L: Lookups>(
+    context: &RunContext<'_>,
+    lookups: &L,
+    address: u64,
+) -> Result<Option<String>, AllocError>
+    ensures gives { IfOk result (λ symbol. option_map string_bytes symbol
+        ≡ option_map (symbol_name context.now.style) ((L.answers lookups.now).symbol_at address)) }
+{
     match lookups.find_symbol(address) {
         Some(name) => Ok(Some(symbol_name(context.alloc, context.style, name)?)),
         None => Ok(None),
@@ -145,11 +162,65 @@ fn push_answer<L: Lookups>(
     if !asks_frames(context.style) {
         return push_found(texts, context, address, lookups.find_location(address));
     }
-    let symbol = symbol_of(context, lookups, address)?;
+    let symbol = asked_symbol(context, lookups, address)?;
     let symbol = symbol.as_deref();
     push_found_frames(
         texts,
         context,
+        address,
+        symbol,
+        lookups.find_frames(address),
+    )
+}
+
+// Adds the object of the frames that a lookup found, or tells its fault.
+fn push_found_object<R: Reader>(
+    texts: &mut Texts,
+    context: &RunContext<'_>,
+    probe: Option<u64>,
+    address: u64,
+    symbol: Option<&str>,
+    found: Result<FrameIter<'_, R>, LoaderError>,
+) -> Result<(), AllocError>
+    ensures gives { OnOk result ((string_bytes texts.new.out ≡ string_bytes texts.old.out
+        ++ json_line context.now.style probe (option_copied symbol.entry)
+        (result_map frames_left found.entry))
+        × (string_bytes texts.new.err ≡ string_bytes texts.old.err
+        ++ fault_text context.now.name.now (codes "frames") address
+        (result_map frames_left found.entry))) }
+{
+    let out = &mut texts.out;
+    match found {
+        Ok(frames) => push_object(out, context.alloc, context.style, probe, symbol, frames),
+        Err(error) => {
+            push_fault(&mut texts.err, context.name, "frames", address, error)?;
+            push_fault_object(out, context.alloc, context.style, probe, symbol, error)
+        }
+    }
+}
+
+// Adds the object of what is asked for, by the address that is looked up.
+#[tactic(auto, using(crate::proofs::AnswerLemmas::stays_itself))]
+fn push_object_at<L: Lookups>(
+    texts: &mut Texts,
+    context: &RunContext<'_>,
+    lookups: &mut L,
+    probe: Option<u64>,
+    address: Option<u64>,
+) -> Result<(), AllocError>
+    ensures gives { OnOk result (AddsObject (L.answers lookups.old) context.now probe address
+        texts.old texts.new) }
+    ensures kept { StaysAnswered (L.answers lookups.old) (L.answers lookups.new) }
+{
+    let Some(address) = address else {
+        return push_missing_object(&mut texts.out, context.alloc, context.style, probe);
+    };
+    let symbol = symbol_of(context, lookups, address)?;
+    let symbol = symbol.as_deref();
+    push_found_object(
+        texts,
+        context,
+        probe,
         address,
         symbol,
         lookups.find_frames(address),
@@ -170,6 +241,10 @@ pub fn make_texts<L: Lookups>(
 {
     texts.out.clear();
     texts.err.clear();
+    if context.style.json {
+        let address = looked_up(context.section, probe);
+        return push_object_at(texts, context, lookups, probe, address);
+    }
     push_address(&mut texts.out, context.style, probe)?;
     push_answer(texts, context, lookups, looked_up(context.section, probe))?;
     push_probe_end(&mut texts.out, context.style)

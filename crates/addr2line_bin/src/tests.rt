@@ -5,6 +5,7 @@ mod failing_streams;
 mod file_runs;
 mod lookup_faults;
 mod option_texts;
+mod response_files;
 mod runs;
 mod sample_files;
 mod streams;

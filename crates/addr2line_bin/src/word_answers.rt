@@ -5,12 +5,12 @@ ghost use Rattle.std.specs.Process.{exit_status};
 ghost use Rattle.clap.specs.Values.{kind_of};
 ghost use Rattle.addr2line_bin.specs.declared.exit.TheConstants.{USAGE_STATUS};
 ghost use Rattle.addr2line_bin.specs.Put.{Reports};
-ghost use Rattle.addr2line_bin.specs.Told.{usage_text};
+ghost use Rattle.addr2line_bin.specs.Told.{misuse_reason, misuse_text, usage_text};
 ghost use Rattle.addr2line_bin.specs.WordAnswers.{AnswersFault, AnswersWords, ShowsText, is_help_or_version};
 
-use crate::command_line::WordFault;
+use crate::command_line::{Misuse, WordFault};
 use crate::exit::{DONE_STATUS, USAGE_STATUS, status_of, tell_last, tell_usage};
-use crate::stream::{StopReason, Stream, send, tell};
+use crate::stream::{StopReason, Stream, send, tell, tell_both};
 use clap::error::ErrorKind;
 use std::alloc::Global;
 use std::process::ExitCode;
@@ -22,6 +22,31 @@ pub fn answer_misuse<E: Stream>(name: &str, err: &mut E) -> ExitCode
 {
     tell_usage(name, err);
     ExitCode::from(USAGE_STATUS)
+}
+
+// What is wrong with words that the command takes.
+fn misuse_reason(why: Misuse) -> &'static str
+    ensures gives { result.now ≡ misuse_reason why }
+{
+    match why {
+        Misuse::RecursionLimit => {
+            ": -r and -R are not taken: how deep names are read is fixed\n"
+        }
+        Misuse::OutputStyle => ": --output-style is GNU, LLVM or JSON\n",
+        Misuse::NameStyle => ": --demangle is rust, auto or none\n",
+        Misuse::NoFile => ": no file: -e names it, and a.out is not taken without\n",
+        Misuse::AllAndAddresses => ": --all stands beside no address\n",
+    }
+}
+
+// Writes why words that the command takes ask for nothing, and how the program is used.
+#[tactic(auto, using(crate::proofs::Parts::sends_on))]
+fn answer_misused<E: Stream>(name: &str, why: Misuse, err: &mut E) -> ExitCode
+    ensures after { Reports (E.state err.old) (E.state err.new) (misuse_text name.now why) }
+    ensures gives { exit_status result ≡ USAGE_STATUS }
+{
+    tell_both(err, name, misuse_reason(why));
+    answer_misuse(name, err)
 }
 
 // Writes the help or the version to the output.
@@ -80,7 +105,7 @@ pub fn answer_fault<W: Stream, E: Stream>(
 {
     match fault {
         WordFault::OutOfMemory => status_of(tell_last(name, StopReason::OutOfMemory, err)),
-        WordFault::Usage => answer_misuse(name, err),
+        WordFault::Misuse(why) => answer_misused(name, why, err),
         WordFault::Clap(error) => answer_words(alloc, name, &error, out, err),
     }
 }

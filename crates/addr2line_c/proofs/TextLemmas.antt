@@ -6,6 +6,7 @@ use Rattle.std.proofs.Math.Nat.{min-eq_left}
 use Rattle.std.proofs.Math.Seq.{drop-append_seam, take-append_seam}
 use Rattle.addr2line_lines.specs.RangeLocations.{LocatedSpan}
 use Rattle.addr2line_units.specs.Frames.{FrameRecord}
+use Rattle.addr2line.specs.declared.names.Style.{Style}
 use Rattle.addr2line_c.specs.declared.frames.WrittenFrame.{WrittenFrame}
 use Rattle.addr2line_c.specs.declared.spans.WrittenSpan.{WrittenSpan}
 use Rattle.addr2line_c.specs.Loads.{NamesLoad, bytes_if, texts_of_load, written_load}
@@ -76,12 +77,12 @@ load_named buffer needed token load small filled fits =
     )
 
 -- the texts of frames
-pub frames_named : (demangles : Bool) (out : List WrittenFrame) (count : ℕ) (buffer : List ℕ)
+pub frames_named : (names : Option Style) (out : List WrittenFrame) (count : ℕ) (buffer : List ℕ)
     (needed : ℕ) (frames : List FrameRecord) → length buffer < 2 ^ 64
-    → IsFilled count out (written_frames demangles frames)
-    → IsFilled needed buffer (zero_ended (frames_texts demangles frames))
-    → length frames ≤ length out → length (zero_ended (frames_texts demangles frames)) ≤ length buffer
-    → EachNames (NamesFrame demangles buffer) out frames
+    → IsFilled count out (written_frames names frames)
+    → IsFilled needed buffer (zero_ended (frames_texts names frames))
+    → length frames ≤ length out → length (zero_ended (frames_texts names frames)) ≤ length buffer
+    → EachNames (NamesFrame names buffer) out frames
 frames_named d out count buffer needed frames small parts filled room fits =
     each_named (frame_texts d) (written_frame d) (NamesFrame d buffer) count out frames parts room named
   where

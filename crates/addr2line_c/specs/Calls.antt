@@ -2,6 +2,7 @@
 -- Own: a handle that isn't open answers so, and stays as it is.
 use Rattle.std.specs.Prelude.{◌≡◌, ◌≢◌, ◌⊎◌, ◌==◌, ◌∷◌, ℕ, Bool, true, false, List, [], length, nat_le, Option, Some, None, Ok, Err, if◌then◌else◌}
 use Rattle.elf.specs.declared.error.LoaderError.{LoaderError}
+use Rattle.addr2line.specs.declared.names.Style.{Style}
 use Rattle.addr2line_c.specs.Common.{OutOfMemory, location_of, IsReady, IsReadyForRange, of_file}
 use Rattle.elf.specs.Sections.{section_range_at}
 use Rattle.elf.specs.Symbols.{symbol_at}
@@ -58,14 +59,14 @@ pub record LocatesAt (probe : ℕ) (out : WrittenLocation) (buffer : List ℕ) (
   pub memory : IsReady old.context probe → s ≢ Refused OutOfMemory
   pub others : ChangesContext old new
 
--- the frames at the probe were looked up, with names in their language or not
-pub record FramesAt (probe : ℕ) (demangles : Bool) (out : List WrittenFrame) (count : ℕ)
+-- the frames at the probe were looked up, with names in a style or as the file has them
+pub record FramesAt (probe : ℕ) (names : Option Style) (out : List WrittenFrame) (count : ℕ)
     (buffer : List ℕ) (needed : ℕ) (old new : OpenFile) (s : Status) : Type 0 where
-  pub gives : SaysFrames demangles (frames_of_context old.context probe) out count buffer needed s
+  pub gives : SaysFrames names (frames_of_context old.context probe) out count buffer needed s
   pub none : IfNothing s ((count ≡ 0) × (needed ≡ 0))
   pub left : LeavesFrames probe (frames_fit out count buffer needed) s old.context new.context
   pub asks : AsksIfWaiting probe old.context old.loads.loads.items new.loads.loads.items s
-  pub memory : demangles ≡ false → WaitsForNone old.context probe
+  pub memory : names ≡ None → WaitsForNone old.context probe
       → IsKnownFew Stop old.context probe → s ≢ Refused OutOfMemory
   pub others : ChangesLoads old new
 

@@ -14,3 +14,4 @@ pub mod WrittenSpans
 pub mod Left
 pub mod LoadCalls
 pub mod Calls
+pub mod Flags

@@ -1,9 +1,11 @@
 -- What C gets for locations, frames and spans: their parts, and their texts in a buffer.
 -- Own: the texts of an item stand in the order function, file, after those of the items before it.
-use Rattle.std.specs.Prelude.{◌≡◌, ◌++◌, ◌≤◌, ◌&&◌, ℕ, Bool, List, [], length, nat_le, option_and_then, option_map, Option, Some, if◌then◌else◌}
+use Rattle.std.specs.Prelude.{◌≡◌, ◌++◌, ◌≤◌, ◌&&◌, ℕ, Bool, List, [], length, nat_le, option_and_then, option_map, Option, Some, None}
 use Rattle.addr2line_lines.specs.Location.{Location}
 use Rattle.addr2line_units.specs.Frames.{FrameRecord, NameRecord}
-use Rattle.addr2line_units.specs.FramesLent.{name_text}
+use Rattle.addr2line_units.specs.FramesLent.{raw_text}
+use Rattle.addr2line.specs.Names.{shown_name}
+use Rattle.addr2line.specs.declared.names.Style.{Style}
 use Rattle.addr2line_units.specs.EntriesFrames.{FramesResult}
 use Rattle.addr2line_c.specs.Common.{of_file}
 use Rattle.addr2line_c.specs.declared.location.WrittenLocation.{WrittenLocation}
@@ -35,35 +37,36 @@ written_location before location = record {
   column = number_part (location_column location);
 }
 
--- the text of a name: that in its language, or the bytes that the file has
-abbrev pub chosen_name : Bool → NameRecord → List ℕ
-chosen_name demangles n = if demangles then name_text n else n.name.bytes
+-- the text of a name: that in its language and a style, or the bytes that the file has
+abbrev pub chosen_name : Option Style → NameRecord → List ℕ
+chosen_name None n = n.name.bytes
+chosen_name (Some s) n = shown_name (Some s) (option_map (λ l. l.0) n.language) (raw_text n)
 
 -- the text of the name of a frame
-abbrev pub frame_name : Bool → FrameRecord → Option (List ℕ)
-frame_name demangles f = option_map (chosen_name demangles) f.function
+abbrev pub frame_name : Option Style → FrameRecord → Option (List ℕ)
+frame_name names f = option_map (chosen_name names) f.function
 
 -- the texts of a frame
-abbrev pub frame_texts : Bool → FrameRecord → List (List ℕ)
-frame_texts demangles f =
-    optional_text (frame_name demangles f) ++ optional_text (location_file f.location)
+abbrev pub frame_texts : Option Style → FrameRecord → List (List ℕ)
+frame_texts names f =
+    optional_text (frame_name names f) ++ optional_text (location_file f.location)
 
 -- the frame that follows these texts
-abbrev pub written_frame : Bool → List (List ℕ) → FrameRecord → WrittenFrame
-written_frame demangles before f = record {
+abbrev pub written_frame : Option Style → List (List ℕ) → FrameRecord → WrittenFrame
+written_frame names before f = record {
   entry = offset_part f.offset;
-  function = text_after before (frame_name demangles f);
-  location = written_location (before ++ optional_text (frame_name demangles f)) f.location;
+  function = text_after before (frame_name names f);
+  location = written_location (before ++ optional_text (frame_name names f)) f.location;
 }
 
 -- the texts of frames
-abbrev pub frames_texts : Bool → List FrameRecord → List (List ℕ)
-frames_texts demangles frames = texts_of_items (frame_texts demangles) frames
+abbrev pub frames_texts : Option Style → List FrameRecord → List (List ℕ)
+frames_texts names frames = texts_of_items (frame_texts names) frames
 
 -- frames, the first of which follows no text
-abbrev pub written_frames : Bool → List FrameRecord → List WrittenFrame
-written_frames demangles frames =
-    written_items (frame_texts demangles) (written_frame demangles) [] frames
+abbrev pub written_frames : Option Style → List FrameRecord → List WrittenFrame
+written_frames names frames =
+    written_items (frame_texts names) (written_frame names) [] frames
 
 -- this location is written, with its text
 pub record IsWrittenLocation (out : WrittenLocation) (buffer : List ℕ) (needed : ℕ) (l : Location)
@@ -74,24 +77,25 @@ pub record IsWrittenLocation (out : WrittenLocation) (buffer : List ℕ) (needed
       → NamesText buffer out.file (location_file (Some l))
 
 -- the parts of a frame name its texts in a buffer
-abbrev pub NamesFrame : Bool → List ℕ → WrittenFrame → FrameRecord → Type 0
-NamesFrame demangles buffer w f = NamesText buffer w.function (frame_name demangles f)
+abbrev pub NamesFrame : Option Style → List ℕ → WrittenFrame → FrameRecord → Type 0
+NamesFrame names buffer w f = NamesText buffer w.function (frame_name names f)
     × NamesText buffer w.location.file (location_file f.location)
 
 -- these frames are written, with their texts
-pub record IsWrittenFrames (demangles : Bool) (out : List WrittenFrame) (count : ℕ)
+pub record IsWrittenFrames (names : Option Style) (out : List WrittenFrame) (count : ℕ)
     (buffer : List ℕ) (needed : ℕ) (frames : List FrameRecord) : Type 0 where
-  pub parts : IsFilled count out (written_frames demangles frames)
-  pub texts : IsFilled needed buffer (zero_ended (frames_texts demangles frames))
+  pub parts : IsFilled count out (written_frames names frames)
+  pub texts : IsFilled needed buffer (zero_ended (frames_texts names frames))
   pub named : length frames ≤ length out
-      → length (zero_ended (frames_texts demangles frames)) ≤ length buffer
-      → EachNames (NamesFrame demangles buffer) out frames
+      → length (zero_ended (frames_texts names frames)) ≤ length buffer
+      → EachNames (NamesFrame names buffer) out frames
 
 -- whether so many frames have room, and the bytes that their texts need
 abbrev pub frames_fit : List WrittenFrame → ℕ → List ℕ → ℕ → Bool
 frames_fit out count buffer needed = nat_le count (length out) && nat_le needed (length buffer)
 
 -- the status says what a lookup of frames gives, and the frames are written
-abbrev pub SaysFrames : Bool → FramesResult → List WrittenFrame → ℕ → List ℕ → ℕ → Status → Type 0
-SaysFrames demangles given out count buffer needed s = SaysOrWaits (of_file given)
-    (IsWrittenFrames demangles out count buffer needed) (frames_fit out count buffer needed) s
+abbrev pub SaysFrames : Option Style → FramesResult → List WrittenFrame → ℕ → List ℕ → ℕ → Status
+    → Type 0
+SaysFrames names given out count buffer needed s = SaysOrWaits (of_file given)
+    (IsWrittenFrames names out count buffer needed) (frames_fit out count buffer needed) s

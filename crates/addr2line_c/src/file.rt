@@ -14,7 +14,7 @@ use crate::status::Status;
 use crate::symbols::{self, WrittenSymbol};
 use crate::{answers, lookups};
 use addr2line::gimli::read::EndianBytes;
-use addr2line::{Context, ElfFile, LoaderError, open_bytes};
+use addr2line::{Context, ElfFile, LoaderError, Style, open_bytes};
 use bytes::Bytes;
 use std::alloc::Global;
 
@@ -81,13 +81,13 @@ impl OpenFile {
     pub(crate) fn find_frames(
         &mut self,
         probe: u64,
-        demangles: bool,
+        names: Option<Style>,
         out: &mut [WrittenFrame],
         count: &mut usize,
         buffer: &mut [u8],
         needed: &mut usize,
     ) -> Status
-        ensures gives { FramesAt probe demangles out.new count.new buffer.new needed.new
+        ensures gives { FramesAt probe names out.new count.new buffer.new needed.new
             self.old self.new result }
     {
         lookups::find_frames(
@@ -95,7 +95,7 @@ impl OpenFile {
             &mut self.context,
             &mut self.loads,
             probe,
-            demangles,
+            names,
             out,
             count,
             buffer,

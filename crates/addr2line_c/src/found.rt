@@ -1,6 +1,6 @@
 //! What lookups found, with what C gets of it.
 
-ghost use Rattle.std.specs.Prelude.{◌≡◌, ◌⊎◌, Some, false, length, nat_le, option_map};
+ghost use Rattle.std.specs.Prelude.{◌≡◌, ◌⊎◌, None, Some, length, nat_le, option_map};
 ghost use Rattle.addr2line_c.specs.Common.{ExactlyUnlessOom, OutOfMemory, LocationResult, of_file};
 ghost use Rattle.addr2line_lines.specs.LentLocation.{as_location};
 ghost use Rattle.addr2line_units.specs.FramesLeft.{frames_left};
@@ -14,7 +14,7 @@ use crate::frames::{WrittenFrame, put_frames};
 use crate::location::{WrittenLocation, put_location};
 use crate::status::{Status, done_if, status_of_error};
 use addr2line::gimli::read::{Error, Reader};
-use addr2line::{FrameIter, Location};
+use addr2line::{FrameIter, Location, Style};
 use std::alloc::Global;
 
 /// What was found of a location, with its text in the buffer.
@@ -47,7 +47,7 @@ pub(crate) fn put_found(
 pub(crate) fn put_found_frames<R: Reader>(
     alloc: Global,
     found: Result<FrameIter<'_, R>, Error>,
-    demangles: bool,
+    names: Option<Style>,
     out: &mut [WrittenFrame],
     count: &mut usize,
     buffer: &mut [u8],
@@ -55,11 +55,11 @@ pub(crate) fn put_found_frames<R: Reader>(
 ) -> Status
     ensures gives { (given : FramesResult)
         → ExactlyUnlessOom (λ i. Some (frames_left i)) found.entry given
-        → SaysFrames demangles given out.new count.new buffer.new needed.new result }
+        → SaysFrames names given out.new count.new buffer.new needed.new result }
     ensures none { IfNothing result ((count.new ≡ 0) × (needed.new ≡ 0)) }
     ensures whole { (result ≡ Refused OutOfMemory) ⊎ (result ≡ status_by Waits
         (frames_fit out.new count.new buffer.new needed.new) (found_some found.entry)) }
-    ensures memory { demangles ≡ false → result ≡ status_by Waits
+    ensures memory { names ≡ None → result ≡ status_by Waits
         (frames_fit out.new count.new buffer.new needed.new) (found_some found.entry) }
 {
     *count = 0;
@@ -68,7 +68,7 @@ pub(crate) fn put_found_frames<R: Reader>(
         Ok(frames) => frames,
         Err(error) => return status_of_error(error),
     };
-    match put_frames(alloc, frames, demangles, out, buffer, needed) {
+    match put_frames(alloc, frames, names, out, buffer, needed) {
         Ok(found) => {
             *count = found;
             done_if(found <= out.len() && *needed <= buffer.len())

@@ -1,6 +1,6 @@
 //! Frames, as C gets them.
 
-ghost use Rattle.std.specs.Prelude.{◌≡◌, ◌++◌, ℕ, List, [], false, length, IfErr, IfOk, IsOk, OnOk, Some};
+ghost use Rattle.std.specs.Prelude.{◌≡◌, ◌++◌, ℕ, List, [], length, IfErr, IfOk, IsOk, None, OnOk, Some};
 ghost use Rattle.gimli_read.specs.declared.error.Error.TheVariants.{OutOfMemory};
 ghost use Rattle.addr2line_units.specs.FramesLeft.{frames_left};
 ghost use Rattle.addr2line_units.specs.FramesLent.{as_frame, as_name};
@@ -12,7 +12,7 @@ use crate::fill::fill;
 use crate::location::{WrittenLocation, put_location};
 use crate::parts::{OffsetPart, TextPart, offset_part, put_text};
 use addr2line::gimli::read::{Error, Reader};
-use addr2line::{Frame, FrameIter, FunctionName};
+use addr2line::{Frame, FrameIter, FunctionName, Style, demangle_auto_with};
 use std::alloc::Global;
 
 /// A function at an address with its location there, as C gets it.
@@ -32,24 +32,25 @@ pub struct WrittenFrame {
 fn put_name<R: Reader>(
     alloc: Global,
     name: &FunctionName<'_, R>,
-    demangles: bool,
+    names: Option<Style>,
     buffer: &mut [u8],
     used: &mut usize,
 ) -> Result<TextPart, Error>
     ensures gives { (before : List (List ℕ)) → IsFilled used.old buffer.old (zero_ended before)
         → OnOk result (IsFilled used.new buffer.new (zero_ended (before
-        ++ optional_text (Some (chosen_name demangles (as_name R.section name.now)))))) }
+        ++ optional_text (Some (chosen_name names (as_name R.section name.now)))))) }
     ensures made { (before : List (List ℕ)) → IsFilled used.old buffer.old (zero_ended before)
         → IfOk result (λ p. p ≡ text_after before
-        (Some (chosen_name demangles (as_name R.section name.now)))) }
+        (Some (chosen_name names (as_name R.section name.now)))) }
     ensures refused { IfErr result (λ e. e ≡ OutOfMemory) }
-    ensures memory { demangles ≡ false → IsOk result }
+    ensures memory { names ≡ None → IsOk result }
     ensures kept { length buffer.new ≡ length buffer.old }
 {
-    if !demangles {
+    let Some(style) = names else {
         return Ok(put_text(buffer, used, Some(name.name.to_slice())));
-    }
-    let text = name.demangle(alloc)?;
+    };
+    let text = name.raw_name(alloc)?;
+    let text = demangle_auto_with(alloc, text, name.language, style)?;
     Ok(put_text(buffer, used, Some(text.as_str().as_bytes())))
 }
 
@@ -57,22 +58,22 @@ fn put_name<R: Reader>(
 fn put_name_if<R: Reader>(
     alloc: Global,
     frame: &Frame<'_, R>,
-    demangles: bool,
+    names: Option<Style>,
     buffer: &mut [u8],
     used: &mut usize,
 ) -> Result<TextPart, Error>
     ensures gives { (before : List (List ℕ)) → IsFilled used.old buffer.old (zero_ended before)
         → OnOk result (IsFilled used.new buffer.new (zero_ended (before
-        ++ optional_text (frame_name demangles (as_frame R.section frame.now))))) }
+        ++ optional_text (frame_name names (as_frame R.section frame.now))))) }
     ensures made { (before : List (List ℕ)) → IsFilled used.old buffer.old (zero_ended before)
         → IfOk result (λ p. p ≡ text_after before
-        (frame_name demangles (as_frame R.section frame.now))) }
+        (frame_name names (as_frame R.section frame.now))) }
     ensures refused { IfErr result (λ e. e ≡ OutOfMemory) }
-    ensures memory { demangles ≡ false → IsOk result }
+    ensures memory { names ≡ None → IsOk result }
     ensures kept { length buffer.new ≡ length buffer.old }
 {
     match &frame.function {
-        Some(name) => put_name(alloc, name, demangles, buffer, used),
+        Some(name) => put_name(alloc, name, names, buffer, used),
         None => Ok(put_text(buffer, used, None)),
     }
 }
@@ -88,20 +89,20 @@ fn entry_of<R: Reader>(frame: &Frame<'_, R>) -> Option<u64>
 fn put_frame<R: Reader>(
     alloc: Global,
     frame: &Frame<'_, R>,
-    demangles: bool,
+    names: Option<Style>,
     buffer: &mut [u8],
     used: &mut usize,
 ) -> Result<WrittenFrame, Error>
     ensures gives { (before : List (List ℕ)) → IsFilled used.old buffer.old (zero_ended before)
         → OnOk result (IsFilled used.new buffer.new (zero_ended (before
-        ++ frame_texts demangles (as_frame R.section frame.now)))) }
+        ++ frame_texts names (as_frame R.section frame.now)))) }
     ensures made { (before : List (List ℕ)) → IsFilled used.old buffer.old (zero_ended before)
-        → IfOk result (λ p. p ≡ written_frame demangles before (as_frame R.section frame.now)) }
+        → IfOk result (λ p. p ≡ written_frame names before (as_frame R.section frame.now)) }
     ensures refused { IfErr result (λ e. e ≡ OutOfMemory) }
-    ensures memory { demangles ≡ false → IsOk result }
+    ensures memory { names ≡ None → IsOk result }
     ensures kept { length buffer.new ≡ length buffer.old }
 {
-    let function = put_name_if(alloc, frame, demangles, buffer, used)?;
+    let function = put_name_if(alloc, frame, names, buffer, used)?;
     let location = put_location(buffer, used, frame.location);
     Ok(WrittenFrame {
         entry: offset_part(entry_of(frame)),
@@ -117,24 +118,24 @@ fn put_frame<R: Reader>(
 pub(crate) fn put_frames<R: Reader>(
     alloc: Global,
     frames: FrameIter<'_, R>,
-    demangles: bool,
+    names: Option<Style>,
     out: &mut [WrittenFrame],
     buffer: &mut [u8],
     needed: &mut usize,
 ) -> Result<usize, Error>
     ensures gives { IfOk result (λ count. IsFilled count out.new
-        (written_frames demangles (frames_left frames.entry))) }
+        (written_frames names (frames_left frames.entry))) }
     ensures left { OnOk result (IsFilled needed.new buffer.new
-        (zero_ended (frames_texts demangles (frames_left frames.entry)))) }
+        (zero_ended (frames_texts names (frames_left frames.entry)))) }
     ensures refused { IfErr result (λ e. e ≡ OutOfMemory) }
-    ensures memory { demangles ≡ false → IsOk result }
+    ensures memory { names ≡ None → IsOk result }
     ensures kept { (length out.new ≡ length out.old) × (length buffer.new ≡ length buffer.old) }
 {
     let mut frames = frames;
     let mut count = 0;
     *needed = 0;
     while let Some(frame) = frames.next()? {
-        let written = put_frame(alloc, &frame, demangles, buffer, needed)?;
+        let written = put_frame(alloc, &frame, names, buffer, needed)?;
         count = fill(out, count, &[written]);
     }
     Ok(count)

@@ -1,12 +1,14 @@
 //! What C calls: lookups in ELF files, by handles, into buffers of the caller (`include/addr2line.h`).
 #![tactic(auto)]
 
-ghost use Rattle.std.specs.Prelude.{◌≡◌, ◌==◌, None, length, not};
+ghost use Rattle.std.specs.Prelude.{◌≡◌, None, length};
+ghost use Rattle.addr2line_c.specs.Flags.{names_by};
 ghost use Rattle.addr2line_c.specs.Calls.{AnswersToken, CallsFile, ForgetsAnswer, FramesAt, LocatesAt, OpensFile, ParsesAll, PreloadsAt, SectionNamed, SpansFrom, SymbolAt, TellsLoad, TellsStatusIfAny};
 
 mod answers;
 mod file;
 mod fill;
+mod flags;
 mod found;
 mod frames;
 mod handle;
@@ -20,6 +22,7 @@ mod status;
 mod symbols;
 
 use crate::fill::fill;
+use crate::flags::names_by;
 use crate::frames::WrittenFrame;
 use crate::handle::Handle;
 use crate::loads::WrittenLoad;
@@ -107,19 +110,19 @@ pub extern "C" fn addr2line_find_frames(
     alloc: Global,
     handle: &mut Handle,
     address: u64,
-    demangles: u32,
+    flags: u32,
     frames: &mut [WrittenFrame],
     count: &mut usize,
     text: &mut [u8],
     needed: &mut usize,
 ) -> u32
     ensures gives { CallsFile handle.old.value handle.new.value result
-        (FramesAt address (not (demangles == 0)) frames.new count.new text.new needed.new) }
+        (FramesAt address (names_by flags) frames.new count.new text.new needed.new) }
 {
     let Some(mut file) = handle.take(alloc) else {
         return Status::Closed.number();
     };
-    let status = file.find_frames(address, demangles != 0, frames, count, text, needed);
+    let status = file.find_frames(address, names_by(flags), frames, count, text, needed);
     handle.put(file);
     status.number()
 }

@@ -1,6 +1,6 @@
 //! Lookups, with what C gets of them.
 
-ghost use Rattle.std.specs.Prelude.{◌≡◌, ◌≢◌, false, length, nat_le};
+ghost use Rattle.std.specs.Prelude.{◌≡◌, ◌≢◌, None, length, nat_le};
 ghost use Rattle.addr2line_c.specs.Common.{OutOfMemory, location_of, IsReady, of_file};
 ghost use Rattle.addr2line_units.specs.declared.frames.OnFault.TheVariants.{Stop};
 ghost use Rattle.addr2line.specs.AfterLookups.{IsKnownFew};
@@ -17,7 +17,7 @@ use crate::loads::AskedLoads;
 use crate::location::WrittenLocation;
 use crate::status::{Status, status_of_error};
 use addr2line::gimli::read::Reader;
-use addr2line::{Context, LookupResult};
+use addr2line::{Context, LookupResult, Style};
 use std::alloc::Global;
 
 /// `Context::find_location`, with its text in the buffer.
@@ -47,25 +47,25 @@ pub(crate) fn find_frames<R: Reader>(
     context: &mut Context<R>,
     loads: &mut AskedLoads<R>,
     probe: u64,
-    demangles: bool,
+    names: Option<Style>,
     out: &mut [WrittenFrame],
     count: &mut usize,
     buffer: &mut [u8],
     needed: &mut usize,
 ) -> Status
-    ensures gives { SaysFrames demangles (frames_of_context context.old probe) out.new count.new
+    ensures gives { SaysFrames names (frames_of_context context.old probe) out.new count.new
         buffer.new needed.new result }
     ensures none { IfNothing result ((count.new ≡ 0) × (needed.new ≡ 0)) }
     ensures left { LeavesFrames probe (frames_fit out.new count.new buffer.new needed.new) result
         context.old context.new }
     ensures after { AsksIfWaiting probe context.old loads.old.loads.items loads.new.loads.items
         result }
-    ensures memory { demangles ≡ false → WaitsForNone context.old probe
+    ensures memory { names ≡ None → WaitsForNone context.old probe
         → IsKnownFew Stop context.old probe → result ≢ Refused OutOfMemory }
 {
     match context.find_frames(probe) {
         LookupResult::Output(found) => {
-            put_found_frames(alloc, found, demangles, out, count, buffer, needed)
+            put_found_frames(alloc, found, names, out, count, buffer, needed)
         }
         LookupResult::Load { continuation } => {
             *count = 0;

@@ -9,6 +9,8 @@ mod large_tables;
 mod lines;
 mod location_ranges;
 mod lookups;
+mod many_waiting;
+mod names;
 mod recorded;
 mod refused_growths;
 mod replies;

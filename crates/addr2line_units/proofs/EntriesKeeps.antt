@@ -31,7 +31,7 @@ pub record KeepsAnswered {R : Type 0} (shares : Bool) (scope : Scope) (u : UnitR
 
 -- after its load was looked for: the load is given if the unit waits for one and isn't marked,
 -- which it is then
-pub record KeepsListed {R : Type 0} (scope : Scope) (number : ℕ) (u : UnitRecord) (marks marked : List Bool) (result : Result (Option SplitLoad) Error) (old new : EntriesCache R) : Type 0 where
+pub record KeepsListed {R : Type 0} (scope : Scope) (number : ℕ) (u : UnitRecord) (marks marked : List ℕ) (result : Result (Option SplitLoad) Error) (old new : EntriesCache R) : Type 0 where
   pub checked : KeepsChecked scope u old new
   pub gives : IfOk result (λ load. load ≡ if_new marks (awaited_load scope.file.sections number u (first_answer_of old)))
   pub marks_load : OnOk result (MarksLoad (awaited_load scope.file.sections number u (first_answer_of old)) marks marked)

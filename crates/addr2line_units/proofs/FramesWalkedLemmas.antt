@@ -1,8 +1,10 @@
 -- Walks over the units of a context, one unit after another (on specs/UnitsAfter.antt).
-use Rattle.addr2line_units.proofs.Common.{◌≡◌, ◌≢◌, inl, inr, ℕ, ◌+◌, ◌≤◌, ◌&&◌, ◌||◌, Bool, true, false, not, List, [], ◌∷◌, slice_get, Some, None, Result, Ok, Err, refl, sym, ap, subst, ◌∙◌, arith, false≢true, ⊤, IfErr, Error, OutOfMemory, ◌>>=◌, Scope, Asks, UnitRange, FindsNothing, Finds, LookupAsks, LookupStop, Waits, asked_of_unit, asks_lines_of, ends_lookup, found_in_unit, function_offset_of, has_stopped, holds_along, or_stop, stop_along, LearnsDetailsAt, knows_at, steps_along, steps_in, ParsesOnly, has_parsed, IndexedUnit, FramesResult, AfterAsk, stop_at, IsFaultAt, UnitsState, asked_by, has_all_at, has_asked_at, has_asked_few_at, stop_of, takes_none_at, FirstAnswers}
+use Rattle.addr2line_units.proofs.Common.{◌≡◌, ◌≢◌, first_so, second_so, list_all, inl, inr, ℕ, ◌++◌, ◌+◌, ◌≤◌, ◌&&◌, ◌||◌, Bool, true, false, not, List, [], ◌∷◌, AllByRecursion, append_assoc, filter, IsInOrder, slice_get, Some, None, Result, Ok, Err, refl, sym, ap, subst, ◌∙◌, arith, false≢true, ⊤, IfErr, Error, OutOfMemory, ◌>>=◌, Scope, Asks, UnitRange, FindsNothing, Finds, LookupAsks, LookupStop, Waits, asked_of_unit, asks_lines_of, ends_lookup, found_in_unit, function_offset_of, has_stopped, holds_along, or_stop, stop_along, LearnsDetailsAt, knows_at, steps_along, steps_in, ParsesOnly, has_parsed, IndexedUnit, FramesResult, AfterAsk, stop_at, IsFaultAt, UnitsState, asked_by, has_all_at, has_asked_at, has_asked_few_at, stop_of, takes_none_at, FirstAnswers}
 use Rattle.std.proofs.Math.Nat.{le_trans, lt_of_le_of_lt}
 use Rattle.addr2line_units.specs.declared.frames.Asks.TheVariants as lookups
-use Rattle.addr2line_units.specs.UnitsAfter.{AfterWalkAlong, IsFaultAlong, WereAsked, WereAskedFor}
+use Rattle.addr2line_units.specs.UnitsAfter.{AfterWalkAlong, HasPassedTo, IsFaultAlong, is_passed, WereAsked, WereAskedFor}
+use Rattle.addr2line_units.specs.IndexCover.{ends_sooner, is_before}
+use Rattle.addr2line_units.proofs.IndexPlaceLemmas.{up_to}
 use Rattle.addr2line_units.proofs.FramesLookupLemmas.{faults_there, goes_on, holds_both, holds_ended, holds_first, holds_rest, parses_more}
 use Rattle.addr2line_units.proofs.EntriesStayLemmas.{known_twice}
 use Rattle.addr2line_units.proofs.LocationsWalkLemmas.{lines_first, lines_over}
@@ -18,6 +20,36 @@ abbrev pub StepsLeftWithin : Asks → ℕ → ℕ → UnitsState → UnitsState 
 StepsLeftWithin lookups.Location left most old now = now.steps + left ≤ old.steps + most
 StepsLeftWithin (lookups.Frames faults) left most old now = Unit {0}
 
+-- a lookup has passed over the unit of a number
+pub record IsPassed (asks : Asks) (probe : ℕ) (s : UnitsState) (n : ℕ) : Type 0 where
+  pub nothing : asked_by asks probe s n ≡ Ok (Some [])
+  pub known : has_asked_at asks probe s n ≡ true
+
+-- the units of ranges were passed over
+abbrev pub HavePassed : Asks → ℕ → UnitsState → List UnitRange → Type 0
+HavePassed asks probe s ranges = AllByRecursion (λ (r : UnitRange). IsPassed asks probe s r.unit) ranges
+
+-- what ends no lookup has nothing
+ends_not : (x : FramesResult) → not (ends_lookup x) ≡ true → x ≡ Ok (Some [])
+ends_not (Ok (Some [])) e = refl
+ends_not (Ok (Some (f ∷ fs))) e = absurd cc
+ends_not (Ok None) e = absurd cc
+ends_not (Err f) e = absurd cc
+
+pub of_passed : (asks : Asks) (probe : ℕ) (s : UnitsState) (rs : List UnitRange) → list_all (λ (r : UnitRange). is_passed asks probe s r.unit) rs ≡ true → HavePassed asks probe s rs
+of_passed asks probe s [] e = tt
+of_passed asks probe s (r ∷ rs) e =
+    let both = first_so (is_passed asks probe s r.unit) _ e in
+    (record { nothing = ends_not (asked_by asks probe s r.unit) (first_so (not (ends_lookup (asked_by asks probe s r.unit))) _ both); known = second_so (not (ends_lookup (asked_by asks probe s r.unit))) _ both }, of_passed asks probe s rs (second_so (is_passed asks probe s r.unit) _ e))
+
+pub as_passed : (asks : Asks) (probe : ℕ) (s : UnitsState) (rs : List UnitRange) → HavePassed asks probe s rs → list_all (λ (r : UnitRange). is_passed asks probe s r.unit) rs ≡ true
+as_passed asks probe s [] all = refl
+as_passed asks probe s (r ∷ rs) all = both _ _ (both _ _ (ap (λ x. not (ends_lookup x)) all.0.nothing) all.0.known) (as_passed asks probe s rs all.1)
+  where
+    both : (a b : Bool) → a ≡ true → b ≡ true → (a && b) ≡ true
+    both true b e h = h
+    both false b e h = e
+
 -- a walk that has gone on so far
 pub record Walked (asks : Asks) (probe : ℕ) (all rest : List UnitRange) (old now : UnitsState) : Type 0 where
   pub asked : WereAskedFor asks (LookupAsks (asked_by asks probe old) all) (steps_along old.scope.file.sections old.units all) probe old now
@@ -27,6 +59,9 @@ pub record Walked (asks : Asks) (probe : ℕ) (all rest : List UnitRange) (old n
   pub less : (holds : ℕ → Bool) → holds_along holds (asked_by asks probe old) all ≡ true → holds_along holds (asked_by asks probe old) rest ≡ true
   pub more : (holds : ℕ → Bool) → ((n : ℕ) → has_asked_at asks probe now n ≡ true → holds n ≡ true) → holds_along holds (asked_by asks probe old) rest ≡ true → holds_along holds (asked_by asks probe old) all ≡ true
   pub comes : (n : ℕ) → LookupAsks (asked_by asks probe old) rest n → LookupAsks (asked_by asks probe old) all n
+  pub before : List UnitRange
+  pub all_are : before ++ rest ≡ all
+  pub passed : HavePassed asks probe now before
 
 -- nothing was asked yet
 asked_none : (asks : Asks) (asked : ℕ → Type 0) (most probe : ℕ) (old : UnitsState) → WereAskedFor asks asked most probe old (record old { stop = FindsNothing })
@@ -47,6 +82,9 @@ walked_first asks probe all old = record {
   less = λ holds e. e;
   more = λ holds f e. e;
   comes = λ n e. e;
+  before = [];
+  all_are = refl;
+  passed = tt;
 }
 
 -- what is said of a state that has the same units and answers
@@ -126,9 +164,25 @@ answers_same lookups.Location asked most probe old now a = ap (λ (s : UnitsStat
 answers_same (lookups.Frames faults) asked most probe old now a = a.answers
 
 -- and all that was known stays so
-has_more : (asks : Asks) (asked : ℕ → Type 0) (most probe : ℕ) (mid now : UnitsState) → WereAskedFor asks asked most probe mid now → (n : ℕ) → has_asked_at asks probe mid n ≡ true → has_asked_at asks probe now n ≡ true
+pub has_more : (asks : Asks) (asked : ℕ → Type 0) (most probe : ℕ) (mid now : UnitsState) → WereAskedFor asks asked most probe mid now → (n : ℕ) → has_asked_at asks probe mid n ≡ true → has_asked_at asks probe now n ≡ true
 has_more lookups.Location asked most probe mid now a n e = a.lines.parsed n e
 has_more (lookups.Frames faults) asked most probe mid now a n e = has_all_more probe mid now (any_asked asked probe mid now a) n e
+
+-- what was passed over stays so
+still_passed : (asks : Asks) (asked : ℕ → Type 0) (most probe : ℕ) (mid now : UnitsState) → WereAskedFor asks asked most probe mid now → (n : ℕ) → IsPassed asks probe mid n → IsPassed asks probe now n
+still_passed asks asked most probe mid now a n p = record {
+  nothing = at_old mid now (sym (scope_same asks asked most probe mid now a)) (sym (units_same asks asked most probe mid now a)) (sym (answers_same asks asked most probe mid now a)) (λ s us xs. asked_of_unit asks s us xs probe n ≡ Ok (Some [])) p.nothing;
+  known = has_more asks asked most probe mid now a n p.known;
+}
+
+pub still_all_passed : (asks : Asks) (asked : ℕ → Type 0) (most probe : ℕ) (mid now : UnitsState) → WereAskedFor asks asked most probe mid now → (rs : List UnitRange) → HavePassed asks probe mid rs → HavePassed asks probe now rs
+still_all_passed asks asked most probe mid now a [] all = tt
+still_all_passed asks asked most probe mid now a (r ∷ rs) all = (still_passed asks asked most probe mid now a r.unit all.0, still_all_passed asks asked most probe mid now a rs all.1)
+
+-- one range more
+one_more : (P : UnitRange → Type 0) (xs : List UnitRange) (x : UnitRange) → AllByRecursion P xs → P x → AllByRecursion P (xs ++ (x ∷ []))
+one_more P [] x all p = (p, tt)
+one_more P (y ∷ ys) x all p = (all.0, one_more P ys x all.1 p)
 
 -- one more unit was asked
 asked_over : (asks : Asks) (asked : ℕ → Type 0) (k most probe : ℕ) (old mid now : UnitsState) → WereAskedFor asks asked most probe old mid → WereAskedFor asks (λ n. n ≡ k) (steps_in mid.scope.file.sections (slice_get mid.units k)) probe mid now → asked k
@@ -188,6 +242,10 @@ module _ (shares : Bool) (asks : Asks) (probe : ℕ) (all : List UnitRange) (r :
     has_more_now : (n : ℕ) → has_asked_at asks probe mid n ≡ true → has_asked_at asks probe now n ≡ true
     has_more_now = has_more asks (λ n. n ≡ r.unit) (steps_in mid.scope.file.sections (slice_get mid.units r.unit)) probe mid now a.asked
 
+    -- and what was passed over stays so
+    still_before : HavePassed asks probe now w.before
+    still_before = still_all_passed asks (λ n. n ≡ r.unit) (steps_in mid.scope.file.sections (slice_get mid.units r.unit)) probe mid now a.asked w.before w.passed
+
     -- where the walk takes no memory, a refusal is the fault of a unit that it asks
     alone : holds_along (takes_none_at shares asks probe now) frames all ≡ true → IfErr result (IsFaultAlong asks probe old all)
     alone none = by result (a.no_memory (holds_first frames r rest (takes_none_at shares asks probe now) (subst (λ xs. holds_along (takes_none_at shares asks probe now) frames xs ≡ true) is (w.less (takes_none_at shares asks probe now) none))))
@@ -233,6 +291,13 @@ module _ (shares : Bool) (asks : Asks) (probe : ℕ) (all : List UnitRange) (r :
     pub stop_gives : has_stopped now.stop ≡ true → stop_of asks probe old all ≡ Ok now.stop
     stop_gives k = sym w.rest_is ∙ ap (stop_along frames) is ∙ (step_stop r.unit now.stop (frames r.unit) gave k).1 (stop_along frames rest)
 
+    -- the ranges before that at which the walk stops were passed over
+    pub stop_passed : IsInOrder ends_sooner all → HasPassedTo asks probe now all (Some r)
+    stop_passed up =
+        let are : w.before ++ (r ∷ rest) ≡ all = ap (λ xs. w.before ++ xs) (sym is) ∙ w.all_are in
+        as_passed asks probe now (filter (is_before r) all) (subst (λ xs. HavePassed asks probe now (filter (is_before r) xs)) are
+        (up_to (λ (x : UnitRange). IsPassed asks probe now x.unit) r w.before rest (subst (IsInOrder ends_sooner) (sym are) up) (still_before (Ok x) a)))
+
     pub stop_after : has_stopped now.stop ≡ true → AfterWalkAlong {X = X} shares asks probe all (Ok x) old now
     stop_after k = ended (Ok x) a (step_stop r.unit now.stop (frames r.unit) gave k).0
 
@@ -248,7 +313,32 @@ module _ (shares : Bool) (asks : Asks) (probe : ℕ) (all : List UnitRange) (r :
           less = λ holds h. holds_rest frames r rest holds ends (subst (λ xs. holds_along holds frames xs ≡ true) is (w.less holds h));
           more = λ holds f h. w.more holds (λ n e. f n (has_more_now (Ok x) a n e)) (subst (λ xs. holds_along holds frames xs ≡ true) (sym is) (holds_both frames r rest holds (f r.unit (a.ready tt)) h));
           comes = λ n h. w.comes n (subst (λ xs. LookupAsks frames xs n) (sym is) (inr (ends, h)));
+          before = w.before ++ (r ∷ []);
+          all_are = append_assoc w.before (r ∷ []) rest ∙ ap (λ xs. w.before ++ xs) (sym is) ∙ w.all_are;
+          passed = one_more (λ (x : UnitRange). IsPassed asks probe now x.unit) w.before r (still_before (Ok x) a) (record {
+            nothing = at_old old now now_scope now_units now_answers (λ s us xs. asked_of_unit asks s us xs probe r.unit ≡ Ok (Some [])) on.0;
+            known = a.ready tt;
+          });
         }
+      where
+        same : WereAskedFor asks (LookupAsks frames all) most probe old now
+        same = (both (Ok x) a).0
+
+        now_scope : old.scope ≡ now.scope
+        now_scope = sym (scope_same asks (LookupAsks frames all) most probe old now same)
+
+        now_units : old.units ≡ now.units
+        now_units = sym (units_same asks (LookupAsks frames all) most probe old now same)
+
+        now_answers : old.answers ≡ now.answers
+        now_answers = sym (answers_same asks (LookupAsks frames all) most probe old now same)
+
+-- what a walk leaves doesn't depend on what it gives
+pub ok_as : {X Y : Type 0} (shares : Bool) (asks : Asks) (probe : ℕ) (all : List UnitRange) (x : X) (y : Y) (old now : UnitsState) → AfterWalkAlong {X = X} shares asks probe all (Ok x) old now → AfterWalkAlong {X = Y} shares asks probe all (Ok y) old now
+ok_as shares asks probe all x y old now a = record { asked = a.asked; ready = a.ready; memory = a.memory; no_memory = λ none. tt; stop = tt }
+
+pub err_as : {X Y : Type 0} (shares : Bool) (asks : Asks) (probe : ℕ) (all : List UnitRange) (e : Error) (old now : UnitsState) → AfterWalkAlong {X = X} shares asks probe all (Err e) old now → AfterWalkAlong {X = Y} shares asks probe all (Err e) old now
+err_as shares asks probe all e old now a = record { asked = a.asked; ready = a.ready; memory = a.memory; no_memory = a.no_memory; stop = a.stop }
 
 -- no range is left
 module _ (asks : Asks) (probe : ℕ) (all ranges : List UnitRange) (is : ranges ≡ []) (old now : UnitsState) (w : Walked asks probe all ranges old now) where

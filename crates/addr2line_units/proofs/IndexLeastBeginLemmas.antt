@@ -1,12 +1,12 @@
 -- Least begins beside ranges (on specs/IndexLeastBegins.antt).
-use Rattle.addr2line_units.proofs.Common.{ℕ, ◌≡◌, ◌-◌, ◌<◌, ◌≤◌, Bool, true, false, cond, ◌&&◌, nat_le, nat_lt, nat_cmp, leb, min, List, [], ◌∷◌, ◌++◌, Result, Ok, map, length, take, drop, reverse, arith, ◌∙◌, ap, sym, subst, refl, zero, suc, AllByRecursion, IsNonDecreasingBy, IsPartitionPoint, nat_tests, Error, IsInOrder, in_order, in_order_ordered, UnitRange}
+use Rattle.addr2line_units.proofs.Common.{ℕ, ◌≡◌, ◌-◌, ◌<◌, ◌≤◌, Bool, true, false, cond, ◌&&◌, nat_le, nat_lt, nat_cmp, leb, min, List, [], ◌∷◌, ◌++◌, Result, Ok, map, length, take, drop, reverse, arith, ◌∙◌, ap, sym, subst, refl, zero, suc, AllByRecursion, IsNonDecreasingBy, IsPartitionPoint, nat_tests, Error, IsInOrder, in_order, in_order_ordered, in_order_ties, one_order, UnitRange}
 use Rattle.std.specs.List.{filter}
 use Rattle.std.specs.Ordering.{is_lt, ordering_then}
 use Rattle.addr2line_lines.proofs.SeekLemmas.{Up, non_decreasing}
 use Rattle.addr2line_lines.specs.LastAddress.{last_address}
 use Rattle.addr2line_units.specs.declared.index.IndexedRange.{IndexedRange}
 use Rattle.addr2line_units.specs.IndexCover.{ends_sooner}
-use Rattle.addr2line_units.specs.IndexLeastBegins.{AreIndexed, AreLeastBegins, EndFits, range_begins_by, is_between, least_begin, unit_range_of, with_least_begins}
+use Rattle.addr2line_units.specs.IndexLeastBegins.{AreIndexed, AreLeastBegins, AreOrdered, EndFits, range_begins_by, is_between, least_begin, unit_range_of, with_least_begins}
 use Rattle.addr2line_units.proofs.IndexLemmas.{ends_order}
 use Rattle.addr2line_units.proofs.Facts.{rest_is}
 use Rattle.addr2line_lines.proofs.Facts.{ok_is}
@@ -32,6 +32,25 @@ pub dropped_least : (n : ℕ) (xs : List IndexedRange) → AreLeastBegins xs →
 dropped_least zero xs h = h
 dropped_least (suc n) [] h = h
 dropped_least (suc n) (x ∷ xs) h = dropped_least n xs (later_least x xs h)
+
+-- ranges in order are what putting them in order gives
+pub as_ordered : (xs : List IndexedRange) → IsInOrder ends_sooner (map unit_range_of xs) → AreOrdered xs
+as_ordered xs up = one_order ends_sooner ends_order _ _ (in_order_ordered ends_sooner ends_order (map unit_range_of xs)) up (λ z. in_order_ties ends_sooner ends_order z (map unit_range_of xs))
+
+pub of_ordered : (xs : List IndexedRange) → AreOrdered xs → IsInOrder ends_sooner (map unit_range_of xs)
+of_ordered xs e = subst (IsInOrder ends_sooner) e (in_order_ordered ends_sooner ends_order (map unit_range_of xs))
+
+-- so are later ones
+pub later_ordered : (x : IndexedRange) (xs : List IndexedRange) → AreOrdered (x ∷ xs) → AreOrdered xs
+later_ordered x xs e = as_ordered xs (of_ordered (x ∷ xs) e).1
+
+dropped_up : (n : ℕ) (xs : List IndexedRange) → IsInOrder ends_sooner (map unit_range_of xs) → IsInOrder ends_sooner (map unit_range_of (drop n xs))
+dropped_up zero xs up = up
+dropped_up (suc n) [] up = up
+dropped_up (suc n) (x ∷ xs) up = dropped_up n xs up.1
+
+pub dropped_ordered : (n : ℕ) (xs : List IndexedRange) → IsInOrder ends_sooner (map unit_range_of xs) → AreOrdered (drop n xs)
+dropped_ordered n xs up = as_ordered (drop n xs) (dropped_up n xs up)
 
 -- where the least begin is past the last address of a search, none begins at or below it
 none_by : (last : ℕ) (ranges : List UnitRange) → last < least_begin ranges → filter (range_begins_by last) ranges ≡ []

@@ -18,7 +18,7 @@ module _ {X : Type 0} (lt : X → X → Bool) (o : IsStrictWeakOrder lt) (p : X 
       by_cases true rest = (all.0, rest)
       by_cases false rest = rest
 
-  filter_ordered : (xs : List X) → IsInOrder lt xs → IsInOrder lt (filter p xs)
+  pub filter_ordered : (xs : List X) → IsInOrder lt xs → IsInOrder lt (filter p xs)
   filter_ordered [] up = tt
   filter_ordered (x ∷ xs) up = by_cases (p x) (filter_ordered xs up.1)
     where
@@ -26,7 +26,7 @@ module _ {X : Type 0} (lt : X → X → Bool) (o : IsStrictWeakOrder lt) (p : X 
       by_cases true rest = (filter_all (λ y. lt y x ≡ false) xs up.0, rest)
       by_cases false rest = rest
 
-  filter_swap : (q : X → Bool) (xs : List X) → filter q (filter p xs) ≡ filter p (filter q xs)
+  pub filter_swap : (q : X → Bool) (xs : List X) → filter q (filter p xs) ≡ filter p (filter q xs)
   filter_swap q [] = refl
   filter_swap q (x ∷ xs) = by_cases (p x) (q x) refl refl (filter_swap q xs)
     where

@@ -16,6 +16,7 @@ pub mod UnitLinesLemmas
 pub mod IndexLemmas
 pub mod EntriesLearnedLemmas
 pub mod IndexLeastBeginLemmas
+pub mod IndexPlaceLemmas
 pub mod FramesLeftLemmas
 pub mod EntriesFunctionMemoryLemmas
 pub mod EntriesFunctionLemmas
@@ -57,6 +58,7 @@ pub mod UnitsNewLemmas
 pub mod FramesAskLemmas
 pub mod EntriesEmptyLemmas
 pub mod FramesWalkedLemmas
+pub mod FramesPassedLemmas
 pub mod ParsesAfterLemmas
 pub mod ParsesViewLemmas
 pub mod ParsesAtLemmas

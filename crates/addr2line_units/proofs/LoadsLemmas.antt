@@ -1,10 +1,11 @@
 -- Answers to the loads of units, and the loads that are listed (on specs/Loads.antt and
 -- specs/LoadsListed.antt).
-use Rattle.addr2line_units.proofs.Common.{◌≡◌, ℕ, zero, suc, ◌<◌, ◌==◌, ◌++◌, not, cond, Bool, true, false, List, [], ◌∷◌, filter, length, get_or, slice_get, arith, subst, Option, Some, None, Result, Ok, Err, ap, refl, sym, ◌∙◌, set, Error, UnknownToken, ◌>>=◌, ExactlyUnlessOom, Section, Sections, UnitRecord, CachedUnit, answer_of, with_answer, first_answer_of, answers_in, parts_or_fault, before_others, forget_result, is_of_other, load_of_number, load_result, unit_of_token, view_fault, FirstAnswers, SplitLoad, View, awaited_by, awaited_load, decided_answer, is_open, load_by, load_of_unit, split_name_of, verdict, verdict_by, AreEntriesOf, EntriesCache, OnOk, Scope, false≢true, waits, ⊎_elim, memory_or_not}
+use Rattle.addr2line_units.proofs.Common.{◌≡◌, ℕ, zero, suc, ◌<◌, ◌==◌, ◌||◌, ◌++◌, nat_cmp, nat_tests, not, cond, Bool, true, false, List, [], ◌∷◌, filter, length, get_or, slice_get, arith, subst, Option, Some, None, Result, Ok, Err, ap, refl, sym, ◌∙◌, set, Error, UnknownToken, ◌>>=◌, ExactlyUnlessOom, Section, Sections, UnitRecord, CachedUnit, answer_of, with_answer, first_answer_of, answers_in, parts_or_fault, before_others, forget_result, is_of_other, load_of_number, load_result, unit_of_token, view_fault, FirstAnswers, SplitLoad, View, awaited_by, awaited_load, decided_answer, is_open, load_by, load_of_unit, split_name_of, verdict, verdict_by, AreEntriesOf, EntriesCache, OnOk, Scope, false≢true, waits, ⊎_elim, memory_or_not}
 use Rattle.std.proofs.lemmas.List.{append_assoc}
 use Rattle.std.specs.Option.{option_to_list}
 use Rattle.std.specs.Prelude.{IfSome, is_none, is_some, if◌then◌else◌}
 use Rattle.gimli.specs.declared.unit.DwoId.{DwoId}
+use Rattle.std.specs.BTreeMap.{is_at}
 use Rattle.addr2line_units.specs.LoadsListed.{MarksLoad, MarksUnit, if_new, is_marked, is_new}
 use Rattle.addr2line_units.specs.UnitAfter.{AfterCheck, AfterNewLoadIn, load_unless_marked}
 use Rattle.addr2line_units.proofs.EntriesKeeps.{KeepsChecked, KeepsListed}
@@ -105,8 +106,15 @@ awaits_this d n u answer l e h = by answer (load_of_unit d n u) e h
     by (Some a) (Ok None) k w = absurd cc
     by (Some a) (Ok (Some x)) k w = absurd cc
 
+-- one more unit is marked
+pub marks_more : (number : ℕ) (old now : List ℕ) → ((q : ℕ) → is_marked now q ≡ cond (is_at (nat_cmp number) q) true (is_marked old q)) → MarksUnit number old now
+marks_more number old now h n = h n ∙ same_number number n (is_marked old n)
+  where
+    same_number : (k q : ℕ) (b : Bool) → cond (is_at (nat_cmp k) q) true b ≡ ((q == k) || b)
+    same_number k q b = grind (arith, nat_tests)
+
 -- a load is listed where its unit isn't marked, and its unit is marked then
-module _ (marks : List Bool) (n : ℕ) where
+module _ (marks : List ℕ) (n : ℕ) where
   pub not_new : (o : Option SplitLoad) → is_some o ≡ true → ((l : SplitLoad) → o ≡ Some l → l.unit ≡ n) → not (is_marked marks n) ≡ false → if_new marks o ≡ None
   not_new None h own e = absurd cc
   not_new (Some l) h own e = ap (λ b. if b then Some l else None) (ap (λ m. not (is_marked marks m)) (own l refl) ∙ e)
@@ -114,15 +122,15 @@ module _ (marks : List Bool) (n : ℕ) where
   pub is_new_load : (l : SplitLoad) → l.unit ≡ n → not (is_marked marks n) ≡ true → if_new marks (Some l) ≡ Some l
   is_new_load l own e = ap (λ b. if b then Some l else None) (ap (λ m. not (is_marked marks m)) own ∙ e)
 
-  pub marks_load : (now : List Bool) (o : Option SplitLoad) → is_some o ≡ true → ((l : SplitLoad) → o ≡ Some l → l.unit ≡ n) → MarksUnit n marks now → MarksLoad o marks now
+  pub marks_load : (now : List ℕ) (o : Option SplitLoad) → is_some o ≡ true → ((l : SplitLoad) → o ≡ Some l → l.unit ≡ n) → MarksUnit n marks now → MarksLoad o marks now
   marks_load now None h own e = absurd cc
   marks_load now (Some l) h own e = subst (λ m. MarksUnit m marks now) (sym (own l refl)) e
 
-pub marks_none : (marks : List Bool) (o : Option SplitLoad) → o ≡ None → MarksLoad o marks marks
+pub marks_none : (marks : List ℕ) (o : Option SplitLoad) → o ≡ None → MarksLoad o marks marks
 marks_none marks o e = subst (λ x. MarksLoad x marks marks) (sym e) refl
 
 -- after the load of the unit of a number was looked for
-module _ {R : Type 0} (scope : Scope) (n : ℕ) (u : UnitRecord) (marks marked : List Bool) (old new : EntriesCache R) (h : AreEntriesOf scope u old) where
+module _ {R : Type 0} (scope : Scope) (n : ℕ) (u : UnitRecord) (marks marked : List ℕ) (old new : EntriesCache R) (h : AreEntriesOf scope u old) where
   abbrev d : Sections
   d = scope.file.sections
 
@@ -193,7 +201,7 @@ pub none_marked : (loads : List SplitLoad) → filter (is_new []) loads ≡ load
 none_marked loads = filter_all (is_new []) (λ x. refl) loads
 
 -- the loads that are new, the first of them in front
-next_listed : (o : Option SplitLoad) (old now : List Bool) (loads : List SplitLoad) → MarksLoad o old now → filter (is_new old) (before_others o loads) ≡ option_to_list (if_new old o) ++ filter (is_new now) loads
+next_listed : (o : Option SplitLoad) (old now : List ℕ) (loads : List SplitLoad) → MarksLoad o old now → filter (is_new old) (before_others o loads) ≡ option_to_list (if_new old o) ++ filter (is_new now) loads
 next_listed None old now loads e = ap (λ m. filter (is_new m) loads) (sym e)
 next_listed (Some l) old now loads e = by (is_new old l) (filter_twice (is_new old) (is_of_other l.unit) (is_new now) (λ x. ap not (e x.unit) ∙ both_or (x.unit == l.unit) (is_marked old x.unit)) loads)
   where
@@ -203,7 +211,7 @@ next_listed (Some l) old now loads e = by (is_new old l) (filter_twice (is_new o
     by false k = k
 
 -- the loads that are listed so far and those that are new make up all
-module _ (listed : List SplitLoad) (o : Option SplitLoad) (old now : List Bool) (loads all : List SplitLoad) where
+module _ (listed : List SplitLoad) (o : Option SplitLoad) (old now : List ℕ) (loads all : List SplitLoad) where
   pub listed_more : (found : Option SplitLoad) → found ≡ if_new old o → MarksLoad o old now → listed ++ filter (is_new old) (before_others o loads) ≡ all → (listed ++ option_to_list found) ++ filter (is_new now) loads ≡ all
   listed_more found f m h =
       append_assoc listed (option_to_list found) (filter (is_new now) loads)

@@ -38,13 +38,13 @@ listing_over asks k old mid now a b asked = record {
 
 -- a listing that has gone on so far: the loads that are listed, and those along the ranges that are
 -- left whose units aren't marked
-pub record ListedSoFar (all rest : List UnitRange) (marks : List Bool) (loads : List SplitLoad) (old now : UnitsState) : Type 0 where
+pub record ListedSoFar (all rest : List UnitRange) (marks : List ℕ) (loads : List SplitLoad) (old now : UnitsState) : Type 0 where
   pub after : AfterListing (LeadTo all) old now
   pub listed : loads ++ filter (is_new marks) (loads_of old.scope.file.sections old.scope.file.units old.answers rest) ≡ loads_of old.scope.file.sections old.scope.file.units old.answers all
   pub none_open : NoneOpen old.scope.file.sections old.scope.file.units old.answers all → NoneOpen old.scope.file.sections old.scope.file.units old.answers rest
   pub leads : (n : ℕ) → LeadTo rest n → LeadTo all n
 
-pub listed_first : (all : List UnitRange) (marks : List Bool) (loads : List SplitLoad) (old : UnitsState) → marks ≡ [] → loads ≡ [] → ListedSoFar all all marks loads old (record old { stop = FindsNothing })
+pub listed_first : (all : List UnitRange) (marks : List ℕ) (loads : List SplitLoad) (old : UnitsState) → marks ≡ [] → loads ≡ [] → ListedSoFar all all marks loads old (record old { stop = FindsNothing })
 listed_first all marks loads old unmarked none = record {
   after = listing_first (LeadTo all) old;
   listed = ap (λ ls. ls ++ filter (is_new marks) every) none ∙ ap (λ m. filter (is_new m) every) unmarked ∙ none_marked every;
@@ -56,7 +56,7 @@ listed_first all marks loads old unmarked none = record {
     every = loads_of old.scope.file.sections old.scope.file.units old.answers all
 
 -- one more unit
-module _ (all : List UnitRange) (marks : List Bool) (loads : List SplitLoad) (old mid : UnitsState) (r : UnitRange) (rest ranges : List UnitRange) (is : ranges ≡ r ∷ rest) (w : ListedSoFar all ranges marks loads old mid) where
+module _ (all : List UnitRange) (marks : List ℕ) (loads : List SplitLoad) (old mid : UnitsState) (r : UnitRange) (rest ranges : List UnitRange) (is : ranges ≡ r ∷ rest) (w : ListedSoFar all ranges marks loads old mid) where
   abbrev d : Sections
   d = old.scope.file.sections
 
@@ -70,7 +70,7 @@ module _ (all : List UnitRange) (marks : List Bool) (loads : List SplitLoad) (ol
     pub after_next : AfterListing (LeadTo all) old now
     after_next = listing_over (LeadTo all) r.unit old mid now w.after a (w.leads r.unit (subst (λ xs. LeadTo xs r.unit) (sym is) (inl refl)))
 
-    pub listed_next : (marked : List Bool) (found : Option SplitLoad) (more : List SplitLoad) → found ≡ if_new marks (load_in mid r.unit) → MarksLoad (load_in mid r.unit) marks marked → more ≡ loads ++ option_to_list found
+    pub listed_next : (marked : List ℕ) (found : Option SplitLoad) (more : List SplitLoad) → found ≡ if_new marks (load_in mid r.unit) → MarksLoad (load_in mid r.unit) marks marked → more ≡ loads ++ option_to_list found
         → ListedSoFar all rest marked more old now
     listed_next marked found more gives marks_it grown = record {
       after = after_next;

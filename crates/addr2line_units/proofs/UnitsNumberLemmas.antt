@@ -101,7 +101,7 @@ module _ {R : Type 0} {scope : Scope} {held : List (CachedUnit R)} {last : Frame
         pub kept_forgetting : AfterForgettingIn c after → KeepsForgotten scope u v w
         kept_forgetting a = keeps_forgotten scope u c after (its_entries i n there at) a
 
-        pub kept_listing : {marks marked : List Bool} {r : Result (Option SplitLoad) Error} → AfterNewLoadIn d n u marks marked r v w → KeepsListed scope n u marks marked r v w
+        pub kept_listing : {marks marked : List ℕ} {r : Result (Option SplitLoad) Error} → AfterNewLoadIn d n u marks marked r v w → KeepsListed scope n u marks marked r v w
         kept_listing {marks} {marked} {r} a = keeps_listed scope n u marks marked v w (its_entries i n there at) r a
 
         -- the fault of its view

@@ -1,7 +1,7 @@
 -- Which units hold an address: the ranges that lead to them, as they are listed, and those of them
 -- that hold an address or meet a range (DWARF 5, sections 2.17 and 6.1.2).
 -- Own: by end, then by unit, then by begin. A unit is met once for each such range.
-use Rattle.std.specs.Prelude.{◌≡◌, ◌⊎◌, ℕ, nat_lt, Bool, true, false, ◌&&◌, ◌||◌, List, [], ◌∷◌, filter}
+use Rattle.std.specs.Prelude.{◌≡◌, ◌⊎◌, ℕ, nat_lt, Bool, true, false, ◌&&◌, ◌||◌, not, List, [], ◌∷◌, filter, Option, Some, None}
 use Rattle.std.specs.Ordering.{is_lt, nat_cmp, ordering_then}
 use Rattle.addr2line_lines.specs.InOrder.{in_order}
 use Rattle.addr2line_lines.specs.Shortest.{holds}
@@ -20,6 +20,23 @@ range_covers probe r =
 -- the ranges that hold the probe, in order
 abbrev pub cover : ℕ → List UnitRange → List UnitRange
 cover probe ranges = in_order ends_sooner (filter (range_covers probe) ranges)
+
+-- whether a range stands before a place, and whether it doesn't
+abbrev pub is_before : UnitRange → UnitRange → Bool
+is_before place r = ends_sooner r place
+
+abbrev pub is_from : UnitRange → UnitRange → Bool
+is_from place r = not (is_before place r)
+
+-- the ranges before a place, none without one
+abbrev pub before_place : Option UnitRange → List UnitRange → List UnitRange
+before_place None ranges = []
+before_place (Some place) ranges = filter (is_before place) ranges
+
+-- the ranges from a place on, all without one
+abbrev pub from_place : Option UnitRange → List UnitRange → List UnitRange
+from_place None ranges = ranges
+from_place (Some place) ranges = filter (is_from place) ranges
 
 -- the range ends past low and begins below high
 abbrev pub range_overlaps : ℕ → ℕ → UnitRange → Bool

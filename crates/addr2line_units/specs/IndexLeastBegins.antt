@@ -26,6 +26,10 @@ unit_range_of r = r.unit_range
 abbrev pub AreLeastBegins : List IndexedRange → Type 0
 AreLeastBegins ranges = ranges ≡ with_least_begins (map unit_range_of ranges)
 
+-- the ranges stand in order
+abbrev pub AreOrdered : List IndexedRange → Type 0
+AreOrdered ranges = in_order ends_sooner (map unit_range_of ranges) ≡ map unit_range_of ranges
+
 -- the range ends at or below the last address
 abbrev pub EndFits : UnitRange → Type 0
 EndFits r = r.range.end ≤ last_address

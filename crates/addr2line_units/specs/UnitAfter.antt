@@ -186,7 +186,7 @@ pub record AfterAnswerIn {R : Type 0} (shares : Bool) (d : Sections) (u : UnitRe
   pub functions : new.functions ≡ old.functions
 
 -- the load of the unit of a number, none where it is marked
-abbrev pub load_unless_marked : Sections → ℕ → UnitRecord → List Bool
+abbrev pub load_unless_marked : Sections → ℕ → UnitRecord → List ℕ
     → Result (Option SplitLoad) Error
 load_unless_marked d number u marks =
     if is_marked marks number then Ok None else load_of_unit d number u
@@ -194,7 +194,7 @@ load_unless_marked d number u marks =
 -- after a unit was looked at for its load: where it waits, the load is given unless the unit was
 -- marked, which it is then; else nothing is marked, and there is none
 pub record AfterNewLoadIn {R : Type 0} (d : Sections) (number : ℕ) (u : UnitRecord)
-    (marks marked : List Bool) (result : Result (Option SplitLoad) Error)
+    (marks marked : List ℕ) (result : Result (Option SplitLoad) Error)
     (old new : EntriesCache R) : Type 0 where
   pub check : AfterCheck d u old new
   pub load : waits new.view.state ≡ true

@@ -2,16 +2,17 @@
 -- Own: a lookup parses only lines that it asks for, and reads nothing of a unit that it doesn't
 -- ask; what is known stays known. The first answer to a unit's load counts until the unit is
 -- forgotten.
-use Rattle.std.specs.Prelude.{◌≡◌, ◌≢◌, ◌⊎◌, ◌+◌, ◌<◌, ◌≤◌, ℕ, Bool, true, false, List, length, IfErr, IfSome, IsOk, OnOk, is_some, slice_get, Option, Some, None, Result, Ok, Err}
-use Rattle.std.specs.List.{AllByRecursion}
+use Rattle.std.specs.Prelude.{◌≡◌, ◌≢◌, ◌⊎◌, ◌+◌, ◌<◌, ◌≤◌, ◌&&◌, ℕ, Bool, true, false, not, List, length, IfErr, IfSome, IsOk, OnOk, is_some, slice_get, Option, Some, None, Result, Ok, Err}
+use Rattle.std.specs.List.{AllByRecursion, list_all}
 use Rattle.addr2line_units.specs.Common.{Error, OutOfMemory, WasNotRefused, Sections, UnitRecord, Scope, fault_of}
 use Rattle.addr2line_units.specs.declared.frames.Asks.{Asks}
 use Rattle.addr2line_units.specs.declared.frames.Asks.TheVariants.{Location, Frames}
 use Rattle.addr2line_units.specs.declared.frames.OnFault.{OnFault}
 use Rattle.addr2line_units.specs.declared.index.UnitRange.{UnitRange}
+use Rattle.addr2line_units.specs.IndexCover.{before_place}
 use Rattle.addr2line_units.specs.declared.parses.ReadingDepth.{ReadingDepth}
 use Rattle.addr2line_units.specs.declared.parses.ReadingDepth.TheVariants as depths
-use Rattle.addr2line_units.specs.FramesLookup.{FindsNothing, LookupAsks, answer_of, asks_lines_of, has_stopped, holds_along, function_offset_of, with_answer}
+use Rattle.addr2line_units.specs.FramesLookup.{FindsNothing, LookupAsks, answer_of, asks_lines_of, ends_lookup, has_stopped, holds_along, function_offset_of, with_answer}
 use Rattle.addr2line_units.specs.Parses.{AreReadyFor, IsDecidedTo, IsReadyOf, ReadsNoMemory, answers_after_parse, read_of_units}
 use Rattle.addr2line_units.specs.EntriesKnown.{KnownEntries, LearnsDetailsAt, LearnsNoDetails, LearnsNoFunctions, knows_at}
 use Rattle.addr2line_units.specs.Loads.{NoneOpen, forgotten, is_open_at, load_result}
@@ -113,6 +114,17 @@ AfterWalkAlong shares asks probe ranges result old = AfterAsking
     (λ s. holds_along (has_asked_few_at asks probe s) (asked_by asks probe old) ranges)
     (λ s. holds_along (takes_none_at shares asks probe s) (asked_by asks probe old) ranges)
     (IsFaultAlong asks probe old ranges) result old
+
+-- whether a lookup has passed over the unit of a number: it doesn't end there, and all is known
+-- that it asks the unit for
+abbrev pub is_passed : Asks → ℕ → UnitsState → ℕ → Bool
+is_passed asks probe s n =
+    not (ends_lookup (asked_by asks probe s n)) && has_asked_at asks probe s n
+
+-- a lookup along ranges has passed over those before a place
+abbrev pub HasPassedTo : Asks → ℕ → UnitsState → List UnitRange → Option UnitRange → Type 0
+HasPassedTo asks probe s ranges place =
+    list_all (λ (r : UnitRange). is_passed asks probe s r.unit) (before_place place ranges) ≡ true
 
 -- nothing is changed but first answers, what is known of units' entries, and that no lookup is
 -- stored

@@ -59,7 +59,7 @@ AfterAsk shares asks number probe result old = AfterAsking
 
 -- after the load of the unit of a number was looked for, if it waits for one and isn't marked,
 -- which it is then; memory alone is refused, and none where it doesn't wait
-pub record AfterNewLoad {X : Type 0} (number : ℕ) (marks marked : List Bool)
+pub record AfterNewLoad {X : Type 0} (number : ℕ) (marks marked : List ℕ)
     (result : Result (Option X) Error) (old new : UnitsState) : Type 0 where
   pub listing : AfterListing (λ n. n ≡ number) old new
   pub marks_load : OnOk result (MarksLoad (load_of_number old.scope.file.sections

@@ -14,7 +14,7 @@ ghost use Rattle.addr2line_units.specs.Frames.{call_location, found_frames, fram
 ghost use Rattle.addr2line_units.specs.FramesLeft.{entry_frame, files_if, frames_left, place_frame};
 ghost use Rattle.addr2line_units.specs.EntriesFunctions.{ArePlacesIn, function_of_place, cached_functions};
 ghost use Rattle.addr2line_units.specs.FramesLent.{YieldsFrame, language_text, name_text, raw_text, as_frame, as_name};
-ghost use Rattle.addr2line_units.specs.UnitsAfter.{AfterWalkAlong, AfterAnswer};
+ghost use Rattle.addr2line_units.specs.UnitsAfter.{AfterWalkAlong, AfterAnswer, HasPassedTo};
 ghost use Rattle.addr2line_units.specs.UnitsAsked.{AfterAsk, found_stop, row_stop, stop_at};
 ghost use Rattle.addr2line_units.specs.EntriesEmpty.{HasNothingAt};
 ghost use Rattle.addr2line_units.specs.FramesCached.{found_after_fault};
@@ -28,6 +28,7 @@ ghost use Rattle.addr2line_units.specs.SupScope.{as_unit, sup_file};
 ghost use Rattle.addr2line_units.specs.UnitView.{load_of_unit};
 
 use crate::entries::{FunctionPlace, LazyFunctions, UnitCache, UnitFrames};
+use crate::index::UnitRange;
 use crate::legacy::demangle_auto;
 use crate::locations::location_of;
 use crate::range_iter::UnitRangeIter;
@@ -502,7 +503,8 @@ impl<R: Reader> Units<R> {
     /// Asks the units that ranges lead to, and stores what the lookup comes to: the first unit that
     /// waits for an answer, that has a fault, unless faults are passed over, or that has a function
     /// or a location; for a location its lines alone are asked. What is read of the units up to it
-    /// is cached, their faults too, and nothing is read of others.
+    /// is cached, their faults too, and nothing is read of others. Gives the range at which it
+    /// stops, if it stops at one: nothing is found in the units of those before it.
     ///
     /// Refused by that fault; may fail with `OutOfMemory` instead, only where something of what is
     /// asked for isn't cached and takes memory, or there are more than 16 inlined functions.
@@ -513,20 +515,21 @@ impl<R: Reader> Units<R> {
         mut ranges: UnitRangeIter<'_>,
         probe: u64,
         asks: Asks,
-    ) -> Result<(), Error>
+    ) -> Result<Option<UnitRange>, Error>
         ensures gives { ExactlyUnlessOom (λ _. self.new.stop) result
             (stop_of asks probe self.old (ranges_left ranges.entry)) }
         ensures after { AfterWalkAlong R.shares asks probe (ranges_left ranges.entry) result
             self.old self.new }
+        ensures passed { IfOk result (HasPassedTo asks probe self.new (ranges_left ranges.entry)) }
     {
         self.reset();
         while let Some(range) = ranges.next() {
             self.ask(range.unit, probe, asks)?;
             if self.has_stopped() {
-                return Ok(());
+                return Ok(Some(range));
             }
         }
-        Ok(())
+        Ok(None)
     }
 }
 

@@ -11,7 +11,7 @@ ghost use Rattle.addr2line_lines.specs.LastAddress.{last_address};
 ghost use Rattle.addr2line_units.specs.IndexAranges.{is_arange_of, offset_sooner, set_aranges};
 ghost use Rattle.addr2line_units.specs.UnitsMemory.{aranges_in_at_cost};
 ghost use Rattle.addr2line_units.specs.IndexLeastBegins.{EndFits, is_between, with_least_begins};
-ghost use Rattle.addr2line_units.specs.IndexCover.{cover, cover_range, ends_sooner};
+ghost use Rattle.addr2line_units.specs.IndexCover.{cover, cover_range, ends_sooner, from_place};
 ghost use Rattle.addr2line_units.specs.RangeIterLeft.{ranges_left};
 
 use crate::range_iter::UnitRangeIter;
@@ -250,6 +250,29 @@ impl UnitRanges {
     }
 }
 
+impl UnitRange {
+    // Whether the range stands before another one, in order of end, then unit, then begin.
+    fn ends_sooner(&self, other: &UnitRange) -> bool
+        ensures gives { result ≡ ends_sooner self.now other.now }
+    {
+        let (range, place) = (self.range, other.range);
+        (range.end, self.unit, range.begin) < (place.end, other.unit, place.begin)
+    }
+}
+
+impl<'a> UnitRangeIter<'a> {
+    /// Passes over the ranges before a place, none without one. Takes no memory.
+    pub fn skip_to(&mut self, place: Option<UnitRange>)
+        ensures left { ranges_left self.new ≡ from_place place (ranges_left self.old) }
+    {
+        let Some(place) = place else { return };
+        let passed = self
+            .ranges
+            .partition_point(|r| r.unit_range.ends_sooner(&place));
+        self.ranges = &self.ranges[passed..];
+    }
+}
+
 impl<'a> Iterator for UnitRangeIter<'a> {
     type Item = UnitRange;
 
@@ -258,7 +281,7 @@ impl<'a> Iterator for UnitRangeIter<'a> {
     ghost remaining = { item_count ranges_left };
 
     /// The next range. Takes no memory.
-    #[tactic(auto, using(crate::proofs::IndexLeastBeginLemmas::all_late))]
+    #[tactic(auto, using(crate::proofs::IndexLeastBeginLemmas::all_late, crate::proofs::IndexLeastBeginLemmas::later_least, crate::proofs::IndexLeastBeginLemmas::later_ordered))]
     fn next(&mut self) -> Option<UnitRange> {
         loop {
             let (first, rest) = self.ranges.split_first()?;

@@ -1,6 +1,6 @@
 //! The answers to the loads of units, and the loads that an address waits for.
 
-ghost use Rattle.std.specs.Prelude.{◌≡◌, Err, IfErr, IfOk, None, OnOk, Ok, Some, false, option_map, true, ◌++◌, ◌<◌, length, not, IfSome};
+ghost use Rattle.std.specs.Prelude.{◌≡◌, Err, IfErr, IfOk, None, OnOk, Ok, Some, option_map, true, ◌++◌, not, IfSome};
 ghost use Rattle.std.specs.Option.{option_to_list};
 ghost use Rattle.addr2line_units.specs.Common.{OutOfMemory, IsUnlessOom, fault_of};
 ghost use Rattle.addr2line_units.specs.UnitViewCached.{verdict_in};
@@ -20,6 +20,7 @@ use crate::units::{Sources, Units};
 use gimli::read::{Error, Reader};
 use gimli::{Dwarf, Unit};
 use std::alloc::Global;
+use std::collections::BTreeSet;
 use std::rc::Rc;
 
 impl<R: Reader> EntriesCache<R> {
@@ -118,20 +119,13 @@ impl<R: Reader> Units<R> {
     }
 }
 
-// Marks the unit of a number below `count`, and tells whether it wasn't marked. Refused
-// `OutOfMemory` alone.
-fn mark_unit(marks: &mut Vec<bool>, count: usize, number: usize) -> Result<bool, Error>
-    requires below { number < count }
-    ensures gives { IfOk result (λ fresh. fresh ≡ not (is_marked marks.old.items number)) }
-    ensures left { OnOk result (MarksUnit number marks.old.items marks.new.items) }
+// Marks the unit of a number, and tells whether it wasn't marked. Refused `OutOfMemory` alone.
+fn mark_unit(marks: &mut BTreeSet<usize>, number: usize) -> Result<bool, Error>
+    ensures gives { IfOk result (λ fresh. fresh ≡ not (is_marked marks.old.keys number)) }
+    ensures left { OnOk result (MarksUnit number marks.old.keys marks.new.keys) }
     ensures refused { IfErr result (λ e. e ≡ OutOfMemory) }
 {
-    if marks.len() < count {
-        marks.resize(count, false)?;
-    }
-    let fresh = !marks[number];
-    marks[number] = true;
-    Ok(fresh)
+    Ok(marks.insert(number)?)
 }
 
 impl<R: Reader> UnitCache<R> {
@@ -141,19 +135,18 @@ impl<R: Reader> UnitCache<R> {
         &mut self,
         sources: &Sources<R>,
         dw_unit: &Unit<R>,
-        marks: &mut Vec<bool>,
+        marks: &mut BTreeSet<usize>,
         number: usize,
     ) -> Result<Option<SplitDwarfLoad<R>>, Error>
         requires unit { AreOfUnit sources.now dw_unit.now self.old }
-        requires within { number < length sources.now.file.units }
         ensures after { AfterEntries (AfterNewLoadIn sources.now.file.sections number dw_unit.now
-            marks.old.items marks.new.items result) sources.now dw_unit.now self.old self.new }
+            marks.old.keys marks.new.keys result) sources.now dw_unit.now self.old self.new }
     {
         self.check_split(sources, dw_unit);
         if !self.entries.view.is_open() {
             return Ok(None);
         }
-        if !mark_unit(marks, sources.units.len(), number)? {
+        if !mark_unit(marks, number)? {
             return Ok(None);
         }
         read_load(&sources.dwarf, number, dw_unit)
@@ -180,12 +173,12 @@ impl<R: Reader> Units<R> {
     // such unit.
     fn new_load_at(
         &mut self,
-        marks: &mut Vec<bool>,
+        marks: &mut BTreeSet<usize>,
         number: usize,
     ) -> Result<Option<SplitDwarfLoad<R>>, Error>
-        ensures gives { IfOk result (λ load. load ≡ if_new marks.old.items (load_of_number
+        ensures gives { IfOk result (λ load. load ≡ if_new marks.old.keys (load_of_number
             self.old.scope.file.sections self.old.scope.file.units self.old.answers number)) }
-        ensures after { AfterNewLoad number marks.old.items marks.new.items result self.old
+        ensures after { AfterNewLoad number marks.old.keys marks.new.keys result self.old
             self.new }
     {
         self.stop = FramesStop::FindsNothing;
@@ -215,7 +208,7 @@ impl<R: Reader> Units<R> {
     {
         self.reset();
         let mut loads = Vec::new(self.alloc);
-        let mut marks = Vec::new(self.alloc);
+        let mut marks = BTreeSet::new(self.alloc);
         while let Some(range) = ranges.next() {
             let load = self.new_load_at(&mut marks, range.unit)?;
             push_if(&mut loads, load)?;

@@ -1,6 +1,6 @@
 //! The ranges of units that a search finds.
 
-ghost use Rattle.addr2line_units.specs.IndexLeastBegins.{AreLeastBegins};
+ghost use Rattle.addr2line_units.specs.IndexLeastBegins.{AreLeastBegins, AreOrdered};
 
 use crate::index::IndexedRange;
 
@@ -12,4 +12,5 @@ pub struct UnitRangeIter<'a> {
     // The last address at which a range may begin.
     pub(crate) last: u64,
     ghost least: { AreLeastBegins ranges.now },
+    ghost ordered: { AreOrdered ranges.now },
 }

@@ -27,7 +27,7 @@ pub use Rattle.elf.specs.SymbolTable.{IsAbove, IsBelow, IsSymbolTable, precedes}
 pub use Rattle.elf.specs.Symbols.{NamedAddress, covers, entries_in, is_usable, name_from, preference, symbol_bytes, symbol_entry_in, symbol_entry_name, symbol_names_number, symbol_names_of, symbol_table, symbols_of, usable_in, utf8_from}
 unfoldable pub use Rattle.elf.specs.Symbols.{nearest_symbol, symbol_at}
 pub use Rattle.elf.specs.TextStarts.{AreStarts, IsTextDistance, TextAfter, begins_text, is_ascii_table, text_starts}
-pub use Rattle.elf.specs.Wanted.{is_shown_at, is_wanted_section, is_wanted_stem, is_wanted_text, or_false, shows_all, shows_section, shows_sections, shows_tables}
+pub use Rattle.elf.specs.Wanted.{is_shown_at, is_wanted_section, is_wanted_stem, is_wanted_text, shows_all, shows_count, shows_header, shows_ident, shows_section, shows_sections, shows_tables}
 unfoldable pub use Rattle.elf.specs.Wanted.{has_wanted}
 pub use Rattle.elf.specs.declared.image.Piece.{Piece}
 pub use Rattle.elf.specs.declared.section.SectionHeader.{SectionHeader}

@@ -1,6 +1,7 @@
 -- Sections that stand in one piece (on specs/FileTables.antt).
 use Rattle.elf.proofs.Common.{◌≡◌, ◌∙◌, ◌≤◌, ◌+◌, ℕ, zero, suc, Bool, true, false, ◌&&◌, ◌||◌, not, List, [], ◌∷◌, Option, Some, None, drop, get_or, length, nat_eq, option_map, ap, arith, refl, sym, slice_get, option_and_then, list_all, position, starts_with, option_map_or, bytes_eq, nat_tests, or_right, and_parts, SectionHeader, Image, IsWhole, image_bytes, is_held, AreReadable, has_zdebug_name, is_packed, is_readable, first_zdebug, ObjectFile, is_outside, table_text_at, debug_prefix, zdebug_prefix, is_compressed, is_zdebug, is_zdebug_text, section_names_of}
 use Rattle.std.proofs.lemmas.List.Quantifiers.{position-Some}
+use Rattle.elf.proofs.Common.{is_wanted_section}
 
 -- what holds of all holds of each
 pub all_at : {X : Type 0} (p : X → Bool) (xs : List X) (n : ℕ) (x : X) → list_all p xs ≡ true → slice_get xs n ≡ Some x → p x ≡ true
@@ -26,16 +27,23 @@ pub whole_readable : (image : Image) (names : List ℕ) (sections : List Section
 whole_readable image names sections whole n s e = by_cases (is_outside (image_bytes image) s) refl
   where
     by_cases : (b : Bool) → is_outside (image_bytes image) s ≡ b → is_readable image names s ≡ true
-    by_cases true h = ap (λ b. not (is_packed names s) || (b || is_held s.offset s.size image)) h ∙ or_right (not (is_packed names s)) true refl
+    by_cases true h = ap (λ b. not (is_wanted_section names s) || (not (is_packed names s) || (b || is_held s.offset s.size image))) h ∙ ap (λ b. not (is_wanted_section names s) || b) (or_right (not (is_packed names s)) true refl) ∙ or_right (not (is_wanted_section names s)) true refl
     by_cases false h =
         let within : s.offset + s.size ≤ length (image_bytes image) = grind (arith, nat_tests) in
-        ap (λ b. not (is_packed names s) || (b || is_held s.offset s.size image)) h ∙ ap (λ b. not (is_packed names s) || b) (whole s.offset s.size within) ∙ or_right (not (is_packed names s)) true refl
+        ap (λ b. not (is_wanted_section names s) || (not (is_packed names s) || (b || is_held s.offset s.size image))) h ∙ ap (λ b. not (is_wanted_section names s) || (not (is_packed names s) || b)) (whole s.offset s.size within)
+        ∙ ap (λ b. not (is_wanted_section names s) || b) (or_right (not (is_packed names s)) true refl) ∙ or_right (not (is_wanted_section names s)) true refl
 
--- a packed section in the file stands in one piece
-pub readable_is_held : (image : Image) (names : List ℕ) (s : SectionHeader) → is_readable image names s ≡ true → is_packed names s ≡ true → is_outside (image_bytes image) s ≡ false
-    → is_held s.offset s.size image ≡ true
-readable_is_held image names s h packed within =
-    sym (ap (λ b. not b || (is_outside (image_bytes image) s || is_held s.offset s.size image)) packed ∙ ap (λ b. b || is_held s.offset s.size image) within) ∙ h
+-- a packed section in the file that doesn't stand in one piece isn't wanted
+pub unread_is_unwanted : (image : Image) (names : List ℕ) (s : SectionHeader) → is_readable image names s ≡ true → is_packed names s ≡ true → is_outside (image_bytes image) s ≡ false
+    → is_held s.offset s.size image ≡ false → is_wanted_section names s ≡ false
+unread_is_unwanted image names s h packed within held = by (is_wanted_section names s) (is_packed names s) (is_outside (image_bytes image) s) (is_held s.offset s.size image) packed within held h
+  where
+    by : (w p o e : Bool) → p ≡ true → o ≡ false → e ≡ false → (not w || (not p || (o || e))) ≡ true → w ≡ false
+    by false p o e x y z h = refl
+    by true true false false x y z h = absurd cc
+    by true false o e x y z h = absurd cc
+    by true true true e x y z h = absurd cc
+    by true true false true x y z h = absurd cc
 
 -- the name with .zdebug_ in place of .debug_ begins with .zdebug_
 zdebug_name : (names name : List ℕ) (s : SectionHeader) → is_zdebug names name s ≡ true → has_zdebug_name names s ≡ true

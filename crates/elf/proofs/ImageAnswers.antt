@@ -1,11 +1,13 @@
 -- Files of which only pieces were read load as their bytes do (on specs/ImageLaws.antt).
-use Rattle.elf.proofs.Common.{◌≡◌, ◌∙◌, ℕ, inl, inr, ◌*◌, true, ◌&&◌, List, Ok, Err, length, drop, ap, arith, refl, subst, sym, and_parts, take_all, SectionHeader, Image, IsWhole, Shows, image_bytes, is_held, header_in, ident_in, layout_of, Loading, ObjectFile, name_table_of, object_file_of, object_file_with, has_wanted, or_false, shows_all, shows_sections, shows_tables}
+use Rattle.elf.proofs.Common.{◌≡◌, ◌∙◌, ℕ, inl, inr, ◌+◌, ◌*◌, ◌⊎◌, Bool, true, false, ◌&&◌, ◌||◌, ◌==◌, not, nat_lt, layout_number_at, List, Ok, Err, length, drop, ap, arith, refl, subst, sym, and_parts, take_all, SectionHeader, Image, IsWhole, Shows, image_bytes, is_held, header_in, ident_in, layout_of, Loading, ObjectFile, name_table_of, object_file_of, object_file_with, has_wanted, shows_all, shows_count, shows_header, shows_ident, shows_sections, shows_tables}
 use Rattle.gimli_read.specs.Reading.{◌>>=◌}
-use Rattle.elf.specs.declared.constants.TheConstants.{EHDR_SIZE_MAX}
+use Rattle.elf.specs.declared.constants.TheConstants.{EHDR_SIZE_MAX, HALF_SIZE}
+use Rattle.elf.specs.declared.error.LoaderError.{LoaderError}
 use Rattle.elf.specs.declared.header.Ident.{Ident}
+use Rattle.elf.specs.declared.layout.Layout.{Layout}
 use Rattle.elf.specs.declared.header.FileHeader.{FileHeader}
 use Rattle.elf.specs.ImageLaws.{AnswersAlike, ImagesLoadAlike, LoadAlike, SameButBytes}
-use Rattle.elf.proofs.PartLemmas.{fields_in_header, fields_in_section, header_alike, header_start, header_within, ident_alike, number_alike, sections_alike}
+use Rattle.elf.proofs.PartLemmas.{fields_in_header, fields_in_section, header_alike, header_by_front, header_start, start_in, header_within, ident_alike, number_alike, sections_alike}
 use Rattle.elf.proofs.ShownAnswers.{answers_alike}
 
 -- ---- a file of one piece
@@ -54,40 +56,25 @@ record Wanted (image : Image) : Type 0 where
   tables : shows_tables image (object_file_with (image_bytes image) ident header) ≡ true
   sections : shows_sections image (object_file_with (image_bytes image) ident header) ≡ true
 
-wanted_of : (image : Image) → has_wanted image ≡ true → Wanted image
-unfolding has_wanted
-wanted_of image e =
-    let p = and_parts (is_held 0 EHDR_SIZE_MAX image) (or_false (ident_in own >>= λ i. header_in i.endian (layout_of i.class) own >>= λ h. Ok (shows_all image i h))) e in
-    by_ident p.0 (ident_in own) refl p.1
-  where
-    own : List ℕ
-    own = image_bytes image
-
-    by_header : is_held 0 EHDR_SIZE_MAX image ≡ true → (i : Ident) → ident_in (image_bytes image) ≡ Ok i → (r : Loading FileHeader) → header_in i.endian (layout_of i.class) (image_bytes image) ≡ r
-        → or_false (r >>= λ h. Ok (shows_all image i h)) ≡ true → Wanted image
-    by_header front i is (Err d) at e = absurd cc
-    by_header front i is (Ok h) at e =
-        let size = (layout_of i.class).section_size in
-        let file = object_file_with (image_bytes image) i h in
-        let p = and_parts (is_held h.start size image) (is_held h.start (h.count * size) image && (shows_tables image file && shows_sections image file)) e in
-        let q = and_parts (is_held h.start (h.count * size) image) (shows_tables image file && shows_sections image file) p.1 in
-        let r = and_parts (shows_tables image file) (shows_sections image file) q.1 in
-        record {
-          ident = i;
-          header = h;
-          is_ident = is;
-          is_header = at;
-          front = front;
-          first = p.0;
-          headers = q.0;
-          tables = r.0;
-          sections = r.1;
-        }
-
-    by_ident : is_held 0 EHDR_SIZE_MAX image ≡ true → (r : Loading Ident) → ident_in (image_bytes image) ≡ r
-        → or_false (r >>= λ i. header_in i.endian (layout_of i.class) (image_bytes image) >>= λ h. Ok (shows_all image i h)) ≡ true → Wanted image
-    by_ident front (Err d) at e = absurd cc
-    by_ident front (Ok i) at e = by_header front i at (header_in i.endian (layout_of i.class) (image_bytes image)) refl e
+wanted_of : (image : Image) (ident : Ident) (header : FileHeader) → ident_in (image_bytes image) ≡ Ok ident → header_in ident.endian (layout_of ident.class) (image_bytes image) ≡ Ok header
+    → is_held 0 EHDR_SIZE_MAX image ≡ true → shows_all image ident header ≡ true → Wanted image
+wanted_of image i h is at front e =
+    let size = (layout_of i.class).section_size in
+    let file = object_file_with (image_bytes image) i h in
+    let p = and_parts (is_held h.start size image) (is_held h.start (h.count * size) image && (shows_tables image file && shows_sections image file)) e in
+    let q = and_parts (is_held h.start (h.count * size) image) (shows_tables image file && shows_sections image file) p.1 in
+    let r = and_parts (shows_tables image file) (shows_sections image file) q.1 in
+    record {
+      ident = i;
+      header = h;
+      is_ident = is;
+      is_header = at;
+      front = front;
+      first = p.0;
+      headers = q.0;
+      tables = r.0;
+      sections = r.1;
+    }
 
 -- the file of an identification and a header that bytes have
 file_of : (bytes : List ℕ) (i : Ident) (h : FileHeader) → ident_in bytes ≡ Ok i → header_in i.endian (layout_of i.class) bytes ≡ Ok h → object_file_of bytes ≡ Ok (object_file_with bytes i h)
@@ -141,8 +128,77 @@ wanted_alike image bytes shows w =
     let by_bytes : LoadAlike bytes (Ok f) (object_file_of bytes) = subst (λ (r : Loading ObjectFile). LoadAlike bytes (Ok f) r) (sym is_g) (same, answers) in
     subst (λ (r : Loading ObjectFile). LoadAlike bytes r (object_file_of bytes)) (sym is_f) by_bytes
 
+-- ---- a file that is refused
+refused_alike : (bytes own : List ℕ) (d : LoaderError) → object_file_of own ≡ Err d → object_file_of bytes ≡ Err d → LoadAlike bytes (object_file_of own) (object_file_of bytes)
+refused_alike bytes own d e f =
+    let by_bytes : LoadAlike bytes (Err d) (object_file_of bytes) = subst (λ (r : Loading ObjectFile). LoadAlike bytes (Err d) r) (sym f) refl in
+    subst (λ (r : Loading ObjectFile). LoadAlike bytes r (object_file_of bytes)) (sym e) by_bytes
+
+-- by its identification
+no_ident : (bytes : List ℕ) (d : LoaderError) → ident_in bytes ≡ Err d → object_file_of bytes ≡ Err d
+unfolding object_file_of
+no_ident bytes d e = ap (λ r. r >>= λ i. header_in i.endian (layout_of i.class) bytes >>= λ h. Ok (object_file_with bytes i h)) e
+
+-- by its header
+no_header : (bytes : List ℕ) (i : Ident) (d : LoaderError) → ident_in bytes ≡ Ok i → header_in i.endian (layout_of i.class) bytes ≡ Err d → object_file_of bytes ≡ Err d
+unfolding object_file_of
+no_header bytes i d is e =
+    ap (λ r. r >>= λ j. header_in j.endian (layout_of j.class) bytes >>= λ h. Ok (object_file_with bytes j h)) is
+    ∙ ap (λ r. r >>= λ h. Ok (object_file_with bytes i h)) e
+
+-- pieces that have what a header's refusal stands on
+header_refused : (image : Image) (bytes : List ℕ) → Shows image bytes → is_held 0 EHDR_SIZE_MAX image ≡ true → (i : Ident) → shows_count image i ≡ true
+    → header_in i.endian (layout_of i.class) (image_bytes image) ≡ header_in i.endian (layout_of i.class) bytes
+header_refused image bytes shows front i e = by (split (nat_lt (length own) l.header_size) (not (layout_number_at i.endian l.e_shnum HALF_SIZE own == 0)) (nat_lt (length own) (at + l.section_size)) (is_held at l.section_size image) e)
+  where
+    own : List ℕ
+    own = image_bytes image
+
+    l : Layout
+    l = layout_of i.class
+
+    at : ℕ
+    at = start_in i.endian l own
+
+    split : (a b c d : Bool) → (a || (b || (c || d))) ≡ true → ((a || (b || c)) ≡ true) ⊎ (d ≡ true)
+    split true b c d h = inl refl
+    split false true c d h = inl refl
+    split false false true d h = inl refl
+    split false false false d h = inr h
+
+    by : ((nat_lt (length own) l.header_size || (not (layout_number_at i.endian l.e_shnum HALF_SIZE own == 0) || nat_lt (length own) (at + l.section_size))) ≡ true) ⊎ (is_held at l.section_size image ≡ true)
+        → header_in i.endian l own ≡ header_in i.endian l bytes
+    by (inl h) = header_by_front i.endian l own bytes EHDR_SIZE_MAX (fields_in_header i.class) (header_within i.class) shows.len (shows.same 0 EHDR_SIZE_MAX front) h
+    by (inr held) =
+        let fields = fields_in_section i.class in
+        let within = fields.7 in
+        let size = number_alike i.endian l.section_size l.sh_size l.address_size (drop at own) (drop at bytes) (shows.same at l.section_size held) within in
+        header_alike i.endian l own bytes EHDR_SIZE_MAX at (fields_in_header i.class) (header_within i.class) shows.len (shows.same 0 EHDR_SIZE_MAX front) refl size
+
+-- pieces that have what is wanted, or what refuses the file
+shown_alike : (image : Image) (bytes : List ℕ) → Shows image bytes → has_wanted image ≡ true → LoadAlike bytes (object_file_of (image_bytes image)) (object_file_of bytes)
+unfolding has_wanted
+shown_alike image bytes shows e =
+    let p = and_parts (is_held 0 EHDR_SIZE_MAX image) (shows_ident image (ident_in own)) e in
+    by_ident p.0 (ident_in own) refl p.1
+  where
+    own : List ℕ
+    own = image_bytes image
+
+    same : is_held 0 EHDR_SIZE_MAX image ≡ true → ident_in bytes ≡ ident_in own
+    same front = sym (ident_alike own bytes shows.len (shows.same 0 EHDR_SIZE_MAX front))
+
+    by_header : is_held 0 EHDR_SIZE_MAX image ≡ true → (i : Ident) → ident_in own ≡ Ok i → (r : Loading FileHeader) → header_in i.endian (layout_of i.class) own ≡ r → shows_header image i r ≡ true
+        → LoadAlike bytes (object_file_of own) (object_file_of bytes)
+    by_header front i is (Ok h) at s = wanted_alike image bytes shows (wanted_of image i h is at front s)
+    by_header front i is (Err d) at s = refused_alike bytes own d (no_header own i d is at) (no_header bytes i d (same front ∙ is) (sym (header_refused image bytes shows front i s) ∙ at))
+
+    by_ident : is_held 0 EHDR_SIZE_MAX image ≡ true → (r : Loading Ident) → ident_in own ≡ r → shows_ident image r ≡ true → LoadAlike bytes (object_file_of own) (object_file_of bytes)
+    by_ident front (Err d) is s = refused_alike bytes own d (no_ident own d is) (no_ident bytes d (same front ∙ is))
+    by_ident front (Ok i) is s = by_header front i is (header_in i.endian (layout_of i.class) own) refl s
+
 -- ---- the law
 pub images_load_alike : ImagesLoadAlike
 images_load_alike image bytes shows (inl whole) =
     subst (λ (b : List ℕ). LoadAlike bytes (object_file_of b) (object_file_of bytes)) (sym (whole_same image bytes shows whole)) (itself bytes (object_file_of bytes) refl)
-images_load_alike image bytes shows (inr wanted) = wanted_alike image bytes shows (wanted_of image wanted)
+images_load_alike image bytes shows (inr wanted) = shown_alike image bytes shows wanted

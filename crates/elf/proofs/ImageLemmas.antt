@@ -227,10 +227,6 @@ pieces_show len ps bytes o size are =
         let held = holds_is s n p has.held in
         sym has.part ∙ part_same bytes p.bytes.bytes p.start s n (found_of bytes s n ps p are e) held.0 held.1
 
--- a file shows its own bytes
-pub shows_itself : (i : Image) (bytes : List ℕ) → image_bytes i ≡ bytes → Shows i bytes
-shows_itself i bytes e = record { len = ap length e; same = λ s n h. ap (λ b. take n (drop s b)) e }
-
 -- the first piece and the others
 pub first_and_rest : (ps : List Piece) (first : Piece) → first ≡ get_or ps 0 first → 0 < length ps → first ∷ drop 1 ps ≡ ps
 first_and_rest [] first e h = absurd (omega (arith, h))

@@ -1,5 +1,5 @@
 -- Bytes that begin alike, and what is read of them, also by ranges (on specs/Header.antt).
-use Rattle.elf.proofs.Common.{◌≡◌, ◌∙◌, ℕ, zero, suc, ◌+◌, ◌-◌, ◌*◌, ◌<◌, ◌≤◌, ◌==◌, Bool, true, false, ◌&&◌, cond, not, List, [], ◌∷◌, Some, None, Ok, Err, is_some, length, take, drop, get_or, nat_eq, nat_le, nat_lt, ap, arith, refl, subst, sym, eqb-true, nat_tests, drop-take, take-take, get_or-take, length-drop, length-take-le, RunTimeEndian, SectionHeader, AreRangesOf, Image, Shows, image_bytes, image_in, is_held, piece_in, magic, has_magic, class_of, endian_of, headers_in, ident_in, header_in, section_in, sections_in, FieldsInHeader, FieldsInSection, layout_of, layout_number_at, Loading}
+use Rattle.elf.proofs.Common.{◌≡◌, ◌∙◌, ℕ, zero, suc, ◌+◌, ◌-◌, ◌*◌, ◌<◌, ◌≤◌, ◌==◌, Bool, true, false, ◌&&◌, ◌||◌, cond, not, List, [], ◌∷◌, Some, None, Ok, Err, is_some, length, take, drop, get_or, nat_eq, nat_le, nat_lt, ap, arith, refl, subst, sym, eqb-true, nat_tests, drop-take, take-take, get_or-take, length-drop, length-take-le, RunTimeEndian, SectionHeader, AreRangesOf, Image, Shows, image_bytes, image_in, is_held, piece_in, magic, has_magic, class_of, endian_of, headers_in, ident_in, header_in, section_in, sections_in, FieldsInHeader, FieldsInSection, layout_of, layout_number_at, Loading}
 use Rattle.std.specs.Prelude.{slice_index}
 use Rattle.std.specs.Cmp.Lexicographic.{pointwise}
 use Rattle.gimli_read.specs.declared.range.Range.{Range}
@@ -122,6 +122,37 @@ header_alike o l xs ys n start f all len e at first =
     let index = number_alike o n l.e_shstrndx HALF_SIZE xs ys e (let h = f.4 in omega (arith, h, all)) in
     let is_xs = header_is o l xs in
     let is_ys = header_is o l ys in
+    cc
+
+-- the size that section 0 has isn't looked at where the number of section headers stands elsewhere, or
+-- where it is refused before
+unread_size : (l : Layout) (len kind start entry count index m n : ℕ) → (nat_lt len l.header_size || (not (count == 0) || nat_lt len (start + l.section_size))) ≡ true
+    → header_by l len kind start entry count index m ≡ header_by l len kind start entry count index n
+unfolding header_by
+unread_size l len kind start entry count index m n h = by (nat_lt len l.header_size) (not (count == 0)) (nat_lt len (start + l.section_size)) h
+  where
+    then_by : Loading ℕ → Loading FileHeader
+    then_by r = cond (start == 0) (Ok (header_with (kind == ET_REL) 0 0 0)) (cond (not (entry == l.section_size)) (Err BadElf) (r >>= λ k. cond (nat_lt len (start + k * l.section_size)) (Err BadElf) (Ok (header_with (kind == ET_REL) start k index))))
+
+    by : (a b c : Bool) → (a || (b || c)) ≡ true
+        → cond {A = Loading FileHeader} a (Err BadElf) (then_by (cond b (Ok count) (cond c (Err BadElf) (Ok m)))) ≡ cond {A = Loading FileHeader} a (Err BadElf) (then_by (cond b (Ok count) (cond c (Err BadElf) (Ok n))))
+    by true b c e = refl
+    by false true c e = refl
+    by false false true e = refl
+    by false false false e = absurd cc
+
+-- so bytes that begin alike have the same header, or refusal
+pub header_by_front : (o : RunTimeEndian) (l : Layout) (xs ys : List ℕ) (n : ℕ) → FieldsInHeader l → l.header_size ≤ n → length xs ≡ length ys → take n xs ≡ take n ys
+    → (nat_lt (length xs) l.header_size || (not (layout_number_at o l.e_shnum HALF_SIZE xs == 0) || nat_lt (length xs) (start_in o l xs + l.section_size))) ≡ true → header_in o l xs ≡ header_in o l ys
+header_by_front o l xs ys n f all len e h =
+    let kind = number_alike o n l.e_type HALF_SIZE xs ys e (let g = f.0 in omega (arith, g, all)) in
+    let begin : start_in o l xs ≡ start_in o l ys = number_alike o n l.e_shoff l.address_size xs ys e (let g = f.1 in omega (arith, g, all)) in
+    let entry = number_alike o n l.e_shentsize HALF_SIZE xs ys e (let g = f.2 in omega (arith, g, all)) in
+    let count = number_alike o n l.e_shnum HALF_SIZE xs ys e (let g = f.3 in omega (arith, g, all)) in
+    let index = number_alike o n l.e_shstrndx HALF_SIZE xs ys e (let g = f.4 in omega (arith, g, all)) in
+    let is_xs = header_is o l xs in
+    let is_ys = header_is o l ys in
+    let same = unread_size l (length xs) (layout_number_at o l.e_type HALF_SIZE xs) (start_in o l xs) (layout_number_at o l.e_shentsize HALF_SIZE xs) (layout_number_at o l.e_shnum HALF_SIZE xs) (layout_number_at o l.e_shstrndx HALF_SIZE xs) (size_at o l (start_in o l xs) xs) (size_at o l (start_in o l ys) ys) h in
     cc
 
 -- the header says where they begin

@@ -3,6 +3,7 @@ use Rattle.elf.proofs.Common.{◌≡◌, ◌∙◌, ℕ, Bool, true, false, ◌&
 use Rattle.gimli_read.specs.Costed.{◌>>=◌, free}
 use Rattle.gimli_read.specs.Section.{Section}
 use Rattle.elf.specs.declared.error.LoaderError.TheVariants.{BadElf, CompressedSection, RelocationsNeeded}
+use Rattle.elf.specs.Compressed.{copied_if}
 use Rattle.elf.specs.ImageLaws.{AnswersAlike}
 use Rattle.elf.proofs.ShownLemmas.{choose, choose_either, found_in, found_shown, held_same, named_wanted, outside_same, section_same, symbols_same, table_same, zdebug_named_wanted}
 
@@ -131,8 +132,8 @@ module _ (image : Image) (bytes : List ℕ) (shows : Shows image bytes) (f : Obj
   decompressed_answer_same : TablesShown → SectionsShown → (name : List ℕ) → is_wanted_text name ≡ true → decompression_of name of_image ≡ decompression_of name of_bytes
   unfolding decompression_of
   decompressed_answer_same t all name wanted =
-      by_found (decompressed_of of_image) (decompressed_of of_bytes) (missing_decompressed name of_image) (missing_decompressed name of_bytes) (first_named name of_image) (first_named name of_bytes) (first_same t name)
-      (missing_decompressed_same t all name wanted) (λ x e. decompressed_same x.0 x.1 (first_shown all name x wanted e))
+      ap (copied_if (not (is_wanted_text name))) (by_found (decompressed_of of_image) (decompressed_of of_bytes) (missing_decompressed name of_image) (missing_decompressed name of_bytes) (first_named name of_image) (first_named name of_bytes) (first_same t name)
+      (missing_decompressed_same t all name wanted) (λ x e. decompressed_same x.0 x.1 (first_shown all name x wanted e)))
 
   -- ---- all that lookups ask
   pub answers_alike : TablesShown → SectionsShown → AnswersAlike of_image of_bytes

@@ -1,5 +1,5 @@
 -- Sections that one piece has, and the names of those that are wanted (on specs/Wanted.antt).
-use Rattle.elf.proofs.Common.{◌≡◌, ◌∙◌, ◌+◌, ℕ, ◌==◌, Bool, true, false, ◌&&◌, ◌||◌, cond, not, List, [], ◌∷◌, Option, Some, None, drop, length, nat_eq, nat_lt, option_map, take, ap, refl, sym, codes, slice_get, option_and_then, list_all, position, starts_with, option_map_or, bytes_eq, and_left, and_parts, and_right, eqb-true, SectionHeader, Image, Shows, image_bytes, is_held, bytes_at, is_nobits, is_outside, section_bytes_in, string_table_in, table_text_at, debug_prefix, is_named, is_zdebug, is_zdebug_text, zdebug_prefix, symbol_bytes, symbol_table, shows_section, is_shown_at, is_wanted_section, is_wanted_stem, is_wanted_text}
+use Rattle.elf.proofs.Common.{section_names_of, first_zdebug, first_named, ObjectFile, ◌≡◌, ◌∙◌, ◌+◌, ℕ, ◌==◌, Bool, true, false, ◌&&◌, ◌||◌, cond, not, List, [], ◌∷◌, Option, Some, None, drop, length, nat_eq, nat_lt, option_map, take, ap, refl, sym, codes, slice_get, option_and_then, list_all, position, starts_with, option_map_or, bytes_eq, and_left, and_parts, and_right, eqb-true, SectionHeader, Image, Shows, image_bytes, is_held, bytes_at, is_nobits, is_outside, section_bytes_in, string_table_in, table_text_at, debug_prefix, is_named, is_zdebug, is_zdebug_text, zdebug_prefix, symbol_bytes, symbol_table, shows_section, is_shown_at, is_wanted_section, is_wanted_stem, is_wanted_text}
 use Rattle.std.specs.Cmp.Lexicographic.{pointwise}
 use Rattle.std.proofs.lemmas.List.Quantifiers.{position-Some}
 use Rattle.std.proofs.lemmas.Option.{get_or_from_slice_get}
@@ -110,6 +110,13 @@ found_shown p wanted shown sections x all implies e =
     by_tests : (w s : Bool) → w ≡ true → (not w || s) ≡ true → s ≡ true
     by_tests true s w e = e
     by_tests false s w e = absurd cc
+
+-- the first section of a wanted name is wanted
+pub first_wanted : (name : List ℕ) (file : ObjectFile) (n : ℕ) (x : SectionHeader) → first_named name file ≡ Some (n, x) → is_wanted_text name ≡ true → is_wanted_section (section_names_of file) x ≡ true
+first_wanted name file n x e wanted = named_wanted (section_names_of file) name x wanted (found_is (is_named (section_names_of file) name) file.sections (n, x) e).0
+
+pub zdebug_first_wanted : (name : List ℕ) (file : ObjectFile) (n : ℕ) (x : SectionHeader) → first_zdebug name file ≡ Some (n, x) → is_wanted_text name ≡ true → is_wanted_section (section_names_of file) x ≡ true
+zdebug_first_wanted name file n x e wanted = zdebug_named_wanted (section_names_of file) name x wanted (found_is (is_zdebug (section_names_of file) name) file.sections (n, x) e).0
 
 -- ---- bytes of sections
 module _ (image : Image) (bytes : List ℕ) (shows : Shows image bytes) where

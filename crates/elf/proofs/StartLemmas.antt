@@ -24,11 +24,6 @@ start_at_zero (b ∷ bytes) some e = (
   },
 )
 
--- without a zero byte after it no text begins
-pub start_without_zero : (tail : List ℕ) → 0 < length tail → slice_index tail 0 ≢ 0 → IsTextDistance (drop 1 tail) None → IsTextDistance tail None
-start_without_zero [] some e h = absurd (omega arith)
-start_without_zero (b ∷ bytes) some e h = front_text_next b bytes (ne_eqb b 0 e) ∙ ap (option_map (λ t. b ∷ t)) h
-
 -- a text with one byte in front
 text_of_next : (b : ℕ) (bytes text : List ℕ) → b ≢ 0 → front_text bytes ≡ Some text → front_text (b ∷ bytes) ≡ Some (b ∷ text)
 text_of_next b bytes text e h = front_text_next b bytes (ne_eqb b 0 e) ∙ ap (option_map (λ t. b ∷ t)) h

@@ -7,10 +7,11 @@
 -- Own: a section named .zdebug_ is read in the older form, whatever its flag says; one that is
 -- NOBITS has no header. What a header says of alignment, and its reserved number, aren't looked at.
 -- Own: memory is taken for the stream of a section, once its header and the need of relocations
--- don't refuse it, and for a part of the file that is shared.
+-- don't refuse it, and for a part of the file that is shared; for a name that lookups don't ask for
+-- also for a copy of what is read, since the file's pieces may not have it in one.
 use Rattle.std.specs.List.{position, starts_with}
 use Rattle.std.specs.Option.{option_map_or}
-use Rattle.std.specs.Prelude.{ℕ, ◌*◌, ◌==◌, ◌&&◌, ◌||◌, not, List, Option, Ok, Err, if◌then◌else◌, drop, length, nat_eq, nat_lt, codes, option_map, option_and_then}
+use Rattle.std.specs.Prelude.{ℕ, ◌*◌, ◌==◌, ◌&&◌, ◌||◌, Bool, not, List, Option, Ok, Err, if◌then◌else◌, drop, length, nat_eq, nat_lt, codes, option_map, option_and_then}
 use Rattle.elf.specs.Common.{RunTimeEndian}
 use Rattle.std.specs.List.{slice_get}
 use Rattle.gimli_read.specs.declared.endian.RunTimeEndian.TheVariants.{Big}
@@ -25,6 +26,7 @@ use Rattle.elf.specs.Layout.{layout_number_at, layout_of}
 use Rattle.elf.specs.Loading.{CostedLoading, Loading}
 use Rattle.elf.specs.ObjectFile.{ObjectFile}
 use Rattle.elf.specs.SectionBytes.{bytes_at, is_nobits, is_outside, section_bytes_in}
+use Rattle.elf.specs.Wanted.{is_wanted_text}
 use Rattle.elf.specs.Sections.{section_names_of, first_named, is_zdebug, is_compressed, is_relocated, empty_contents, contents_of, gives_bytes_of_file}
 
 -- the size that a stream is to have, and the stream
@@ -63,6 +65,10 @@ unfoldable pub unpacked_contents : ObjectFile → ℕ → PackedSection → Cost
 unpacked_contents file n p = if is_relocated file n then free (Err RelocationsNeeded)
     else unpacked_section p >>= λ bytes. free (Ok (record { bytes = bytes; endian = file.endian }))
 
+-- the same, once that is read
+abbrev pub inflated_contents : ObjectFile → ℕ → Loading PackedSection → CostedLoading Section
+inflated_contents file n packed = free packed >>= unpacked_contents file n
+
 -- the bytes of section n as they stand in the file
 abbrev pub shared_contents : ObjectFile → ℕ → SectionHeader → CostedLoading Section
 shared_contents file n s = record {
@@ -75,8 +81,8 @@ unfoldable pub decompressed_of : ObjectFile → ℕ → SectionHeader → Costed
 decompressed_of file n s =
     if is_nobits s || (is_outside file.bytes s || not (is_compressed s))
     then shared_contents file n s
-    else free (packed_in file.endian (layout_of file.class).address_size (bytes_at file.bytes s))
-    >>= unpacked_contents file n
+    else inflated_contents file n
+    (packed_in file.endian (layout_of file.class).address_size (bytes_at file.bytes s))
 
 -- the first section with .zdebug_ for the .debug_ of a name, beside its number
 abbrev pub first_zdebug : List ℕ → ObjectFile → Option (ℕ × SectionHeader)
@@ -87,7 +93,7 @@ first_zdebug name file = option_and_then
 -- the bytes of a section of such a name
 unfoldable pub zdebug_of : ObjectFile → ℕ → SectionHeader → CostedLoading Section
 zdebug_of file n s = option_map_or
-    (λ bytes. free (zdebug_packed_in bytes) >>= unpacked_contents file n)
+    (λ bytes. inflated_contents file n (zdebug_packed_in bytes))
     (section_bytes_in file.bytes s) (free (Err BadElf))
 
 -- the answer for a name that no section has: no bytes, or those of a section with .zdebug_ for it
@@ -95,10 +101,15 @@ unfoldable pub missing_decompressed : List ℕ → ObjectFile → CostedLoading 
 missing_decompressed name file = option_map_or (λ found. zdebug_of file found.0 found.1)
     (first_zdebug name file) (free (Ok (empty_contents file)))
 
+-- the same, where memory may be taken too for a copy of the bytes that are read
+abbrev pub copied_if : {A : Type 0} → Bool → CostedLoading A → CostedLoading A
+copied_if may c = record { given = c.given; takes_memory = λ shares. may || c.takes_memory shares }
+
 -- the bytes of the first section of a name, decompressed where they are compressed
 unfoldable pub decompression_of : List ℕ → ObjectFile → CostedLoading Section
-decompression_of name file = option_map_or (λ found. decompressed_of file found.0 found.1)
-    (first_named name file) (missing_decompressed name file)
+decompression_of name file = copied_if (not (is_wanted_text name)) (option_map_or
+    (λ found. decompressed_of file found.0 found.1)
+    (first_named name file) (missing_decompressed name file))
 
 -- the bytes, or the fault
 abbrev pub decompressed_at : List ℕ → ObjectFile → Loading Section

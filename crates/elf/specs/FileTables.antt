@@ -14,6 +14,7 @@ use Rattle.elf.specs.SectionBytes.{is_outside, string_table_in, table_text_at}
 use Rattle.elf.specs.Sections.{is_compressed, zdebug_prefix}
 use Rattle.elf.specs.Symbols.{symbol_bytes, symbol_names_number, usable_in}
 use Rattle.elf.specs.SymbolTable.{IsSymbolTable}
+use Rattle.elf.specs.Wanted.{is_wanted_section}
 
 -- the names of the sections, those of the symbols, and the sorted symbols
 pub record HasTables (bytes : List ℕ) (endian : RunTimeEndian) (class : Class)
@@ -34,12 +35,13 @@ has_zdebug_name names s = option_map_or (λ t. starts_with nat_eq t zdebug_prefi
 abbrev pub is_packed : List ℕ → SectionHeader → Bool
 is_packed names s = is_compressed s || has_zdebug_name names s
 
--- whether the bytes of a section, if it is packed and they are in the file, stand in one piece
+-- whether the bytes of a section, if lookups ask for it, it is packed and they are in the file, stand
+-- in one piece
 abbrev pub is_readable : Image → List ℕ → SectionHeader → Bool
-is_readable image names s = not (is_packed names s)
-    || (is_outside (image_bytes image) s || is_held s.offset s.size image)
+is_readable image names s = not (is_wanted_section names s) || (not (is_packed names s)
+    || (is_outside (image_bytes image) s || is_held s.offset s.size image))
 
--- the bytes of each packed section in the file stand in one piece
+-- the bytes of each packed section in the file that lookups ask for stand in one piece
 abbrev pub AreReadable : Image → List ℕ → List SectionHeader → Type 0
 AreReadable image names sections = (n : ℕ) (s : SectionHeader) → slice_get sections n ≡ Some s
     → is_readable image names s ≡ true

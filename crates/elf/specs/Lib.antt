@@ -5,6 +5,7 @@ pub mod Layout
 pub mod Header
 pub mod SectionBytes
 pub mod FileImage
+pub mod Pieces
 pub mod ObjectFile
 pub mod Sections
 pub mod Symbols

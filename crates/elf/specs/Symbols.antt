@@ -6,9 +6,10 @@
 -- Own: a probe's symbol is the one with the greatest address not above it, if its size is 0 or
 -- the probe is below its end. Of several at one address OBJECT and FUNC come before NOTYPE, then
 -- the binds GLOBAL and WEAK before others, then the later entry before the earlier.
+-- Own: the last address, 2^64 - 1, has no symbol, as no byte stands there whose next address exists.
 use Rattle.std.specs.List.{find}
 use Rattle.std.specs.Option.{option_map_or, option_or}
-use Rattle.std.specs.Prelude.{ℕ, zero, suc, ◌+◌, ◌/◌, ◌%◌, ◌==◌, ◌&&◌, ◌||◌, Bool, not, List, [], ◌∷◌, Option, Some, None, if◌then◌else◌, drop, length, filter, slice_index, nat_le, nat_lt, is_some, option_map, option_and_then}
+use Rattle.std.specs.Prelude.{ℕ, zero, suc, ◌+◌, ◌-◌, ◌^◌, ◌/◌, ◌%◌, ◌==◌, ◌&&◌, ◌||◌, Bool, not, List, [], ◌∷◌, Option, Some, None, if◌then◌else◌, drop, length, filter, slice_index, nat_le, nat_lt, is_some, option_map, option_and_then}
 use Rattle.std.specs.Str.{is_utf8}
 use Rattle.elf.specs.Common.{RunTimeEndian}
 use Rattle.gimli_read.specs.Topmost.{topmost, last}
@@ -119,9 +120,9 @@ unfoldable pub nearest_symbol : ℕ → List SymbolEntry → Option SymbolEntry
 nearest_symbol probe symbols = last (topmost preference
     (topmost (λ e. e.address) (filter (λ e. nat_le e.address probe) symbols)))
 
--- whether a symbol at or below the probe covers it
+-- whether a symbol at or below the probe covers it: none covers the last address
 abbrev pub covers : ℕ → SymbolEntry → Bool
-covers probe e = e.size == 0 || nat_lt probe (e.address + e.size)
+covers probe e = nat_lt probe (2 ^ 64 - 1) && (e.size == 0 || nat_lt probe (e.address + e.size))
 
 -- the name, which each usable symbol has, and the address of a probe's symbol
 unfoldable pub symbol_at : ℕ → ObjectFile → Option NamedAddress

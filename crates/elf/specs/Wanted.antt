@@ -2,19 +2,18 @@
 -- has them (System V ABI, Object Files; DWARF 5, section 7.5).
 -- Own: they are the file's header, the section headers, the names of the sections, the symbols with
 -- their names, and the sections of debug information that lookups know by name, with .debug_ or
--- .zdebug_ before it and perhaps .dwo behind it.
+-- .zdebug_ before it and perhaps .dwo behind it; and of a file that is refused, what refuses it.
 use Rattle.std.specs.List.{list_all, starts_with}
 use Rattle.std.specs.Option.{option_map_or}
-use Rattle.std.specs.Prelude.{◌≡◌, ◌⊎◌, ℕ, ◌*◌, ◌&&◌, ◌||◌, Bool, false, true, not, List, ◌==◌, Ok, Err, drop, length, nat_eq, codes, slice_get}
+use Rattle.std.specs.Prelude.{◌≡◌, ◌⊎◌, ℕ, ◌+◌, ◌*◌, ◌&&◌, ◌||◌, Bool, false, true, not, List, ◌==◌, Ok, Err, drop, length, nat_eq, nat_lt, codes, slice_get}
 use Rattle.std.specs.Str.{bytes_eq}
-use Rattle.elf.specs.Common.{◌>>=◌}
-use Rattle.elf.specs.declared.constants.TheConstants.{EHDR_SIZE_MAX}
+use Rattle.elf.specs.declared.constants.TheConstants.{EHDR_SIZE_MAX, HALF_SIZE}
 use Rattle.elf.specs.declared.header.FileHeader.{FileHeader}
 use Rattle.elf.specs.declared.header.Ident.{Ident}
 use Rattle.elf.specs.declared.section.SectionHeader.{SectionHeader}
 use Rattle.elf.specs.FileImage.{Image, IsWhole, image_bytes, is_held}
 use Rattle.elf.specs.Header.{header_in, ident_in}
-use Rattle.elf.specs.Layout.{layout_of}
+use Rattle.elf.specs.Layout.{layout_number_at, layout_of}
 use Rattle.elf.specs.Loading.{Loading}
 use Rattle.elf.specs.ObjectFile.{ObjectFile, object_file_with}
 use Rattle.elf.specs.SectionBytes.{is_nobits, is_outside, table_text_at}
@@ -81,18 +80,31 @@ shows_all image ident header =
     is_held header.start size image && (is_held header.start (header.count * size) image
     && (shows_tables image file && shows_sections image file))
 
--- what is loaded, or false
-abbrev pub or_false : Loading Bool → Bool
-or_false (Ok b) = b
-or_false (Err e) = false
+-- whether pieces have the number of section headers, where section 0 has it and the header is whole
+abbrev pub shows_count : Image → Ident → Bool
+shows_count image ident =
+    let bytes = image_bytes image in
+    let l = layout_of ident.class in
+    let at = layout_number_at ident.endian l.e_shoff l.address_size bytes in
+    nat_lt (length bytes) l.header_size
+    || (not (layout_number_at ident.endian l.e_shnum HALF_SIZE bytes == 0)
+    || (nat_lt (length bytes) (at + l.section_size) || is_held at l.section_size image))
 
--- whether pieces have all of a file that is wanted: each part of it stands in one of them; false of
--- a file that has no header of an ELF file, or fewer bytes than the longest such header
+-- whether they have what a header, or its refusal, stands on
+abbrev pub shows_header : Image → Ident → Loading FileHeader → Bool
+shows_header image ident (Ok header) = shows_all image ident header
+shows_header image ident (Err e) = shows_count image ident
+
+-- the same of an identification; its refusal stands on the front alone
+abbrev pub shows_ident : Image → Loading Ident → Bool
+shows_ident image (Ok ident) = shows_header image ident
+    (header_in ident.endian (layout_of ident.class) (image_bytes image))
+shows_ident image (Err e) = true
+
+-- whether pieces have all of a file that is wanted: each part of it stands in one of them; of a file
+-- that is refused, what refuses it; false of one with fewer bytes than the longest header
 unfoldable pub has_wanted : Image → Bool
-has_wanted image = is_held 0 EHDR_SIZE_MAX image && or_false (do
-  ident ← ident_in (image_bytes image)
-  header ← header_in ident.endian (layout_of ident.class) (image_bytes image)
-  Ok (shows_all image ident header))
+has_wanted image = is_held 0 EHDR_SIZE_MAX image && shows_ident image (ident_in (image_bytes image))
 
 -- one piece has all of a file, or pieces have all that is wanted of it
 abbrev pub HasWanted : Image → Type 0

@@ -72,3 +72,10 @@ pub(crate) const ELFCOMPRESS_ZLIB: u64 = 1;
 pub(crate) const ZLIB_SIZE: usize = 8;
 
 pub(crate) const ZLIB_HEADER_SIZE: usize = 12;
+
+// How many bytes the longest name of a section has that lookups read: `.zdebug_str_offsets.dwo`.
+pub(crate) const WANTED_NAME_MAX: usize = 23;
+
+// How many bytes between two parts that are read are read too, so that the parts are one: as many as
+// the host reads from a file at least.
+pub(crate) const GAP_MAX: u64 = 4096;

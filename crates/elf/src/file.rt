@@ -1,8 +1,9 @@
 //! A whole file.
 
-ghost use Rattle.std.specs.Prelude.{◌≡◌, [], Some, false, slice_get, true, option_map, IfErr, IfOk, IsOk};
+ghost use Rattle.std.specs.Prelude.{◌≡◌, [], None, Some, false, not, slice_get, true, option_map, IfErr, IfOk, IfSome, IsOk};
 ghost use Rattle.elf.specs.Common.{Exactly};
-ghost use Rattle.elf.specs.Compressed.{first_zdebug, unpacked_contents, decompressed_of, zdebug_of, missing_decompressed, decompression_of};
+ghost use Rattle.elf.specs.Wanted.{is_wanted_section, is_wanted_text};
+ghost use Rattle.elf.specs.Compressed.{copied_if, first_zdebug, inflated_contents, packed_in, zdebug_packed_in, unpacked_contents, decompressed_of, zdebug_of, missing_decompressed, decompression_of};
 ghost use Rattle.elf.specs.Loading.{LoadsAtCost, LoadsUnlessOomFor};
 ghost use Rattle.elf.specs.declared.error.LoaderError.TheVariants.{OutOfMemory};
 ghost use Rattle.elf.specs.FileImage.{image_bytes};
@@ -197,7 +198,8 @@ impl ElfFile {
     /// | `BadElf` | its stream is damaged, or inflates to another size than the header tells |
     /// | `OutOfMemory` | a growth was refused; the stream, or a part of the file, takes memory |
     ///
-    /// A growth may be refused before the damage of a stream is met.
+    /// A growth may be refused before the damage of a stream is met, and for a name that `SectionId`
+    /// doesn't name before any other refusal, since what is read may have to be copied.
     #[tactic(auto, unfolding(crate::specs::Compressed::decompression_of))]
     pub fn decompressed_section(
         &self,
@@ -222,7 +224,7 @@ impl ElfFile {
     }
 
     /// The symbol of a probe: the one with the greatest address not above it, if its size is 0 or
-    /// the probe is below its end. Takes no memory.
+    /// the probe is below its end. The last address, `u64::MAX`, has none. Takes no memory.
     ///
     /// Of several at one address objects and functions come before untyped ones, then global and
     /// weak ones before others, then the later one in the file. Only those symbols are looked at
@@ -340,18 +342,49 @@ impl ElfFile {
         }
     }
 
-    // The bytes of a packed section that are in the file.
-    fn packed_bytes(&self, number: usize, section: &SectionHeader) -> &[u8]
+    // The bytes of a packed section that are in the file, if they stand in one piece, as those of
+    // each do that lookups ask for.
+    fn packed_bytes(&self, number: usize, section: &SectionHeader) -> Option<&[u8]>
         requires of_number { slice_get self.now.sections number ≡ Some section.now }
         requires packed { is_packed (section_names_of self.now) section.now ≡ true }
         requires within { is_outside self.now.bytes section.now ≡ false }
-        ensures gives { result.now ≡ bytes_at self.now.bytes section.now }
+        ensures gives { IfSome result (λ b. b.now ≡ bytes_at self.now.bytes section.now) }
+        ensures none { result ≡ None
+            → is_wanted_section (section_names_of self.now) section.now ≡ false }
     {
-        match self.file.slice(section.offset, section.size) {
-            Some(own) => own,
-            // No file has such a section.
-            None => &[],
-        }
+        self.file.slice(section.offset, section.size)
+    }
+
+    // What the bytes of a section inflate to, behind a compression header.
+    fn inflated(&self, alloc: Global, number: usize, own: &[u8]) -> Result<EndianBytes, LoaderError>
+        ensures gives { LoadsAtCost (λ b. b) result (inflated_contents self.now number
+            (packed_in self.now.endian (layout_of self.now.class).address_size own.now)) }
+    {
+        let (size, text) = compressed::packed(own, self.class, self.endian)?;
+        self.unpacked_contents(alloc, number, size, text)
+    }
+
+    // The same of a section with `.zdebug_` for `.debug_`.
+    fn inflated_zdebug(
+        &self,
+        alloc: Global,
+        number: usize,
+        own: &[u8],
+    ) -> Result<EndianBytes, LoaderError>
+        ensures gives { LoadsAtCost (λ b. b) result
+            (inflated_contents self.now number (zdebug_packed_in own.now)) }
+    {
+        let (size, text) = compressed::zdebug_packed(own)?;
+        self.unpacked_contents(alloc, number, size, text)
+    }
+
+    // A copy of the bytes of a section that are in the file. Takes memory.
+    fn copied_bytes(&self, section: &SectionHeader) -> Result<EndianBytes, LoaderError>
+        requires within { is_outside self.now.bytes section.now ≡ false }
+        ensures gives { IfOk result (λ b. b.bytes ≡ bytes_at self.now.bytes section.now) }
+        ensures refused { IfErr result (λ e. e ≡ OutOfMemory) }
+    {
+        self.file.share(section.offset, section.size, self.endian)
     }
 
     // The bytes of a section, decompressed where they are compressed.
@@ -364,30 +397,19 @@ impl ElfFile {
     ) -> Result<EndianBytes, LoaderError>
         requires of_number { slice_get self.now.sections number ≡ Some section.now }
         ensures gives { LoadsAtCost (λ b. b) result
-            (decompressed_of self.now number section.now) }
+            (copied_if (not (is_wanted_section (section_names_of self.now) section.now))
+            (decompressed_of self.now number section.now)) }
     {
         if section.is_nobits() || section.is_outside(&self.file) || !section.is_compressed() {
             return self.contents(number, section);
         }
-        let own = self.packed_bytes(number, section);
-        let (size, text) = compressed::packed(own, self.class, self.endian)?;
-        self.unpacked_contents(alloc, number, size, text)
-    }
-
-    // The bytes of a packed section, no bytes for NOBITS; `None` where they are outside the file.
-    fn packed_bytes_in(&self, number: usize, section: &SectionHeader) -> Option<&[u8]>
-        requires of_number { slice_get self.now.sections number ≡ Some section.now }
-        requires packed { is_packed (section_names_of self.now) section.now ≡ true }
-        ensures gives { option_map (λ b. b.now) result
-            ≡ section_bytes_in self.now.bytes section.now }
-    {
-        if section.is_nobits() {
-            return Some(&[]);
+        match self.packed_bytes(number, section) {
+            Some(own) => self.inflated(alloc, number, own),
+            None => {
+                let copy = self.copied_bytes(section)?;
+                self.inflated(alloc, number, copy.to_slice())
+            }
         }
-        if section.is_outside(&self.file) {
-            return None;
-        }
-        Some(self.packed_bytes(number, section))
     }
 
     // The bytes of a section with `.zdebug_` for `.debug_`.
@@ -400,13 +422,23 @@ impl ElfFile {
     ) -> Result<EndianBytes, LoaderError>
         requires of_number { slice_get self.now.sections number ≡ Some section.now }
         requires packed { is_packed (section_names_of self.now) section.now ≡ true }
-        ensures gives { LoadsAtCost (λ b. b) result (zdebug_of self.now number section.now) }
+        ensures gives { LoadsAtCost (λ b. b) result
+            (copied_if (not (is_wanted_section (section_names_of self.now) section.now))
+            (zdebug_of self.now number section.now)) }
     {
-        let Some(own) = self.packed_bytes_in(number, section) else {
+        if section.is_nobits() {
+            return self.inflated_zdebug(alloc, number, &[]);
+        }
+        if section.is_outside(&self.file) {
             return Err(LoaderError::BadElf);
-        };
-        let (size, text) = compressed::zdebug_packed(own)?;
-        self.unpacked_contents(alloc, number, size, text)
+        }
+        match self.packed_bytes(number, section) {
+            Some(own) => self.inflated_zdebug(alloc, number, own),
+            None => {
+                let copy = self.copied_bytes(section)?;
+                self.inflated_zdebug(alloc, number, copy.to_slice())
+            }
+        }
     }
 
     // The first section with `.zdebug_` for the `.debug_` of a name, beside its number.
@@ -421,7 +453,8 @@ impl ElfFile {
     // The answer for a name that no section has.
     #[tactic(auto, unfolding(crate::specs::Compressed::missing_decompressed))]
     fn missing_decompressed(&self, alloc: Global, name: &[u8]) -> Result<EndianBytes, LoaderError>
-        ensures gives { LoadsAtCost (λ b. b) result (missing_decompressed name.now self.now) }
+        ensures gives { LoadsAtCost (λ b. b) result
+            (copied_if (not (is_wanted_text name.now)) (missing_decompressed name.now self.now)) }
     {
         match self.first_zdebug(name) {
             Some((number, section)) => self.zdebug(alloc, number, &section),

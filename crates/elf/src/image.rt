@@ -1,8 +1,9 @@
 //! The bytes of a file of which only some pieces were read.
 
 ghost use Rattle.std.specs.List.{find};
-ghost use Rattle.std.specs.Prelude.{◌≡◌, ◌≤◌, ◌+◌, ◌-◌, ℕ, List, ◌∷◌, length, take, drop, get_or, is_some, option_map, IfErr, IfOk, IfSome, None, Ok, true};
-ghost use Rattle.elf.specs.FileImage.{ArePiecesInOrder, ArePiecesOf, HasPart, IsWhole, Shows, piece_holds, image_bytes, is_held};
+ghost use Rattle.std.specs.Prelude.{◌≡◌, ◌≤◌, ◌+◌, ◌-◌, ℕ, List, ◌∷◌, length, take, drop, get_or, is_some, nat_lt, option_map, IfErr, IfOk, IfSome, None, Ok, true};
+ghost use Rattle.elf.specs.FileImage.{ArePiecesInOrder, ArePiecesOf, HasPart, IsWhole, Shows, piece_end, piece_holds, image_bytes, is_held};
+ghost use Rattle.elf.specs.Pieces.{AllEndBefore, AreInOrder, NoneEndsBefore};
 ghost use Rattle.elf.specs.declared.layout.Class.TheVariants as class;
 ghost use Rattle.elf.specs.declared.error.LoaderError.TheVariants.{OutOfMemory};
 ghost use Rattle.elf.specs.Layout.{layout_of, layout_number_at};
@@ -35,6 +36,14 @@ impl Piece {
         start - self.start <= own - len
     }
 
+    // Whether the piece ends before a place.
+    fn ends_before(&self, end: u64) -> bool
+        ensures gives { result ≡ nat_lt (piece_end self.now) end }
+    {
+        let own = self.bytes.len();
+        own < end && self.start < end - own
+    }
+
     // The `len` bytes from a place.
     fn part(&self, start: u64, len: u64) -> &[u8]
         requires held { piece_holds start len self.now ≡ true }
@@ -62,20 +71,66 @@ impl Piece {
     }
 }
 
-// The piece that has the `len` bytes from a place.
-fn find_piece<'a>(first: &'a Piece, others: &'a [Piece], start: u64, len: u64) -> Option<&'a Piece>
+// How many of some pieces end before a place.
+fn count_before(pieces: &[Piece], end: u64) -> usize
+    requires in_order { (len : ℕ) × AreInOrder len pieces.now }
+    ensures before { AllEndBefore end (take result pieces.now) }
+    ensures after { NoneEndsBefore end (drop result pieces.now) }
+    ensures within { result ≤ length pieces.now }
+{
+    let mut low = 0;
+    let mut high = pieces.len();
+    while low < high {
+        let middle = low + (high - low) / 2;
+        if pieces[middle].ends_before(end) {
+            low = middle + 1;
+            continue;
+        }
+        high = middle;
+    }
+    low
+}
+
+// The piece of a file of `all` bytes that has the `len` bytes from a place: the first that doesn't
+// end before they do, if it has them.
+fn find_in(pieces: &[Piece], all: u64, start: u64, len: u64) -> Option<&Piece>
+    requires in_order { AreInOrder all pieces.now }
+    ensures gives { option_map (λ p. p.now) result ≡ find (piece_holds start len) pieces.now }
+{
+    if start > all {
+        return None;
+    }
+    if len > all - start {
+        return None;
+    }
+    let count = count_before(pieces, start + len);
+    if count == pieces.len() {
+        return None;
+    }
+    let piece = &pieces[count];
+    if piece.holds(start, len) {
+        Some(piece)
+    } else {
+        None
+    }
+}
+
+// The same of a piece and of others.
+fn find_piece<'a>(
+    first: &'a Piece,
+    others: &'a [Piece],
+    all: u64,
+    start: u64,
+    len: u64,
+) -> Option<&'a Piece>
+    requires in_order { AreInOrder all others.now }
     ensures gives { option_map (λ p. p.now) result
         ≡ find (piece_holds start len) (first.now ∷ others.now) }
 {
     if first.holds(start, len) {
         return Some(first);
     }
-    for piece in others {
-        if piece.holds(start, len) {
-            return Some(piece);
-        }
-    }
-    None
+    find_in(others, all, start, len)
 }
 
 // Whether pieces stand in order in a file of `len` bytes.
@@ -164,7 +219,7 @@ impl FileImage {
         ensures some { is_some result ≡ is_held start len self.now }
         ensures none { result ≡ None → len ≡ 1 → get_or (image_bytes self.now) start 0 ≡ 0 }
     {
-        find_piece(&self.first, &self.others, start, len)
+        find_piece(&self.first, &self.others, self.len, start, len)
     }
 
     /// The `len` bytes from a place, if one piece has them.

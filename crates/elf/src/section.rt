@@ -15,6 +15,7 @@ use crate::constants::{SHF_COMPRESSED, SHN_UNDEF, SHT_NOBITS, SHT_REL, SHT_RELA,
 use crate::error::LoaderError;
 use crate::header::Ident;
 use crate::image::FileImage;
+use crate::wanted::is_wanted_section;
 use bytes::Bytes;
 use gimli_read::{EndianBytes, Range, Reader, RunTimeEndian, zero_of};
 use std::alloc::{AllocError, Global};
@@ -151,11 +152,14 @@ impl SectionHeader {
         self.is_compressed() || self.has_zdebug_name(names)
     }
 
-    // Whether its bytes, if it is packed and they are in the file, stand in one piece.
+    // Whether its bytes, if lookups ask for it, it is packed and they are in the file, stand in one
+    // piece.
     fn is_readable(&self, file: &FileImage, names: &[u8]) -> bool
         ensures gives { result ≡ is_readable file.now names.now self.now }
     {
-        !self.is_packed(names) || (self.is_outside(file) || file.is_held(self.offset, self.size))
+        !is_wanted_section(self, names)
+            || (!self.is_packed(names)
+                || (self.is_outside(file) || file.is_held(self.offset, self.size)))
     }
 
     /// Whether a text of the table is the section's name.
@@ -243,8 +247,8 @@ fn are_readable(file: &FileImage, sections: &[SectionHeader], names: &[u8]) -> b
         .all(|section| section.is_readable(file, names))
 }
 
-/// The file with each packed section in one piece: itself where each is so, else a copy that is
-/// all in one piece. Takes memory only for a copy.
+/// The file with each packed section that lookups ask for in one piece: itself where each is so,
+/// else a copy that is all in one piece. Takes memory only for a copy.
 pub(crate) fn with_readable(
     file: FileImage,
     sections: &[SectionHeader],
@@ -290,9 +294,9 @@ pub(crate) fn text_at(table: &[u8], at: u64) -> Option<&[u8]>
     front_text(rest_at(table, at))
 }
 
-// The text at a place of a string table, if it has no more than `limit` bytes. Reads at most one
-// more.
-fn short_text_at(table: &[u8], at: u64, limit: usize) -> Option<&[u8]>
+/// The text at a place of a string table, if it has no more than `limit` bytes. Reads at most one
+/// more.
+pub(crate) fn short_text_at(table: &[u8], at: u64, limit: usize) -> Option<&[u8]>
     ensures gives { option_map (λ t. t.now) result ≡ short_text_at limit table.now at }
 {
     let rest = rest_at(table, at);

@@ -160,11 +160,11 @@ impl SymbolEntry {
         by_type + by_bind
     }
 
-    /// Whether a symbol at or below the probe covers it.
+    /// Whether a symbol at or below the probe covers it. None covers the last address.
     pub(crate) fn covers(&self, probe: u64) -> bool
         ensures gives { result ≡ covers probe self.now }
     {
-        self.size == 0 || probe.saturating_sub(self.address) < self.size
+        probe < u64::MAX && (self.size == 0 || probe.saturating_sub(self.address) < self.size)
     }
 }
 

@@ -10,9 +10,9 @@ ghost use Rattle.elf.specs.Header.{headers_in};
 ghost use Rattle.elf.specs.Layout.{layout_of};
 ghost use Rattle.elf.specs.SectionBytes.{string_table_in};
 ghost use Rattle.elf.specs.Symbols.{symbol_names_number, symbol_table};
-ghost use Rattle.elf.specs.Wanted.{HasWanted, has_wanted, shows_section, is_shown_at, is_stem_text, is_table_stem, is_unit_stem, is_wanted_section, is_wanted_stem, is_wanted_text, shows_all};
+ghost use Rattle.elf.specs.Wanted.{HasWanted, has_wanted, shows_count, shows_section, is_shown_at, is_stem_text, is_table_stem, is_unit_stem, is_wanted_section, is_wanted_stem, is_wanted_text, shows_all};
 
-use crate::constants::{EHDR_SIZE_MAX, SHN_UNDEF};
+use crate::constants::{EHDR_SIZE_MAX, GAP_MAX, HALF_SIZE, SHN_UNDEF, WANTED_NAME_MAX};
 use crate::file::name_table_in;
 use crate::header::{self, FileHeader, Ident};
 use crate::image::FileImage;
@@ -69,11 +69,11 @@ fn is_wanted_text(text: &[u8]) -> bool
         || (text.starts_with(zdebug) && is_wanted_stem(&text[zdebug.len()..]))
 }
 
-// Whether a section has such a name.
-fn is_wanted_section(section: &SectionHeader, names: &[u8]) -> bool
+/// Whether a section has such a name.
+pub(crate) fn is_wanted_section(section: &SectionHeader, names: &[u8]) -> bool
     ensures gives { result ≡ is_wanted_section names.now section.now }
 {
-    match section::text_at(names, section.name) {
+    match section::short_text_at(names, section.name, WANTED_NAME_MAX) {
         Some(text) => is_wanted_text(text),
         None => false,
     }
@@ -187,7 +187,24 @@ fn shows_all(
     Ok(shows_sections(file, &sections, name_table))
 }
 
-// Whether pieces have all of a file that is wanted.
+// Whether pieces have the number of section headers, where section 0 has it and the header is whole.
+fn shows_count(file: &FileImage, ident: Ident) -> bool
+    ensures gives { result ≡ shows_count file.now ident }
+{
+    let layout = ident.class.layout();
+    let len = file.len();
+    if len < layout.header_size as u64 {
+        return true;
+    }
+    if file.number(0, layout.e_shnum, HALF_SIZE, ident.endian) != 0 {
+        return true;
+    }
+    let at = file.number(0, layout.e_shoff, layout.address_size, ident.endian);
+    let size = layout.section_size as u64;
+    at > len || len - at < size || file.is_held(at, size)
+}
+
+// Whether pieces have all of a file that is wanted, or what refuses it.
 #[tactic(auto, unfolding(crate::specs::Wanted::has_wanted))]
 fn has_wanted(alloc: Global, file: &FileImage) -> Result<bool, AllocError>
     ensures gives { IfOk result (λ b. b ≡ has_wanted file.now) }
@@ -196,12 +213,12 @@ fn has_wanted(alloc: Global, file: &FileImage) -> Result<bool, AllocError>
         return Ok(false);
     }
     let Ok(ident) = header::read_ident(file) else {
-        return Ok(false);
+        return Ok(true);
     };
-    let Ok(header) = header::read_header(file, ident) else {
-        return Ok(false);
-    };
-    shows_all(alloc, file, ident, header)
+    match header::read_header(file, ident) {
+        Ok(header) => shows_all(alloc, file, ident, header),
+        Err(_) => Ok(shows_count(file, ident)),
+    }
 }
 
 // Where the section headers stand, if their end fits 64 bits.
@@ -217,24 +234,39 @@ fn headers_range(ident: Ident, header: FileHeader) -> Option<Range>
     Some(Range { begin, end })
 }
 
-// The header of a file, if it has one.
-fn read_header<S: PartSource>(
-    alloc: Global,
-    source: &S,
-) -> Result<Option<(Ident, FileHeader)>, AllocError> {
-    let range = Range {
-        begin: 0,
-        end: EHDR_SIZE_MAX,
-    };
-    let Some(file) = read_ranges(alloc, source, [range].as_slice())? else {
+// Where section 0 stands, if it is in a file and has the number of section headers.
+fn count_range(file: &FileImage, ident: Ident) -> Option<Range> {
+    let layout = ident.class.layout();
+    if file.len() < layout.header_size as u64 {
+        return None;
+    }
+    if file.number(0, layout.e_shnum, HALF_SIZE, ident.endian) != 0 {
+        return None;
+    }
+    let begin = file.number(0, layout.e_shoff, layout.address_size, ident.endian);
+    let end = begin.checked_add(layout.section_size as u64)?;
+    if end > file.len() {
+        return None;
+    }
+    Some(Range { begin, end })
+}
+
+// The front of a file, and what else says whether it has a header: section 0, if that has the number
+// of section headers.
+fn read_front<S: PartSource>(alloc: Global, source: &S) -> Result<Option<FileImage>, AllocError>
+    ensures gives { IfSome (S.bytes source.now) (λ bytes. IfOk result (λ found. IfSome found (λ f.
+        Shows f bytes))) }
+{
+    let front = joined(alloc, &[])?;
+    let Some(file) = read_ranges(alloc, source, &front)? else {
         return Ok(None);
     };
     let Ok(ident) = header::read_ident(&file) else {
-        return Ok(None);
+        return Ok(Some(file));
     };
-    match header::read_header(&file, ident) {
-        Ok(header) => Ok(Some((ident, header))),
-        Err(_) => Ok(None),
+    match count_range(&file, ident) {
+        Some(range) => read_ranges(alloc, source, &joined(alloc, [range].as_slice())?),
+        None => Ok(Some(file)),
     }
 }
 
@@ -280,20 +312,20 @@ fn range_of(section: &SectionHeader, len: u64) -> Option<Range> {
     })
 }
 
-// The names of the sections, if they are in the file.
+// The names of the sections: no bytes where no section in the file has them.
 fn read_names<S: PartSource>(
     alloc: Global,
     source: &S,
     sections: &[SectionHeader],
     name_table: u64,
 ) -> Result<Option<Vec<u8>>, AllocError> {
-    if name_table >= sections.len() as u64 {
-        return Ok(None);
+    if name_table == SHN_UNDEF || name_table >= sections.len() as u64 {
+        return Ok(Some(Vec::new(alloc)));
     }
     let section = &sections[name_table as usize];
     match range_of(section, source.len()) {
         Some(range) => source.part(alloc, range.begin, section.size as usize),
-        None => Ok(None),
+        None => Ok(Some(Vec::new(alloc))),
     }
 }
 
@@ -309,8 +341,9 @@ fn push_section(
     Ok(())
 }
 
-// Where the section headers stand, the two string tables, the symbol table, and the sections that
-// are wanted, by where they begin. One of no bytes is there too, since it needs a piece at its place.
+// Where the section headers stand, one at least, the two string tables, the symbol table, and the
+// sections that are wanted, by where they begin. One of no bytes is there too, since it needs a piece
+// at its place.
 fn wanted_ranges(
     alloc: Global,
     sections: &[SectionHeader],
@@ -335,7 +368,7 @@ fn wanted_ranges(
     Ok(ranges)
 }
 
-// Ranges in order, and the header before them, those as one that have no byte between them.
+// Ranges in order, and the header before them, those as one that have few bytes between them.
 fn joined(alloc: Global, ranges: &[Range]) -> Result<Vec<Range>, AllocError> {
     let mut all = Vec::new(alloc);
     let mut last = Range {
@@ -343,7 +376,7 @@ fn joined(alloc: Global, ranges: &[Range]) -> Result<Vec<Range>, AllocError> {
         end: EHDR_SIZE_MAX,
     };
     for range in ranges {
-        if range.begin <= last.end {
+        if range.begin <= last.end.saturating_add(GAP_MAX) {
             last.end = last.end.max(range.end);
         } else {
             all.push(last)?;
@@ -354,9 +387,30 @@ fn joined(alloc: Global, ranges: &[Range]) -> Result<Vec<Range>, AllocError> {
     Ok(all)
 }
 
-// The ranges of a file to be read, by its header and its section headers.
-fn planned<S: PartSource>(alloc: Global, source: &S) -> Result<Option<Vec<Range>>, AllocError> {
-    let Some((ident, header)) = read_header(alloc, source)? else {
+// The same with one section header at least, if it is in a file of `len` bytes.
+fn with_first(headers: Range, ident: Ident, len: u64) -> Range {
+    let first = headers
+        .begin
+        .saturating_add(ident.class.layout().section_size as u64);
+    if first > len {
+        return headers;
+    }
+    Range {
+        begin: headers.begin,
+        end: headers.end.max(first),
+    }
+}
+
+// The ranges of a file to be read, by its front; none where it is refused, or can't be read.
+fn planned<S: PartSource>(
+    alloc: Global,
+    source: &S,
+    front: &FileImage,
+) -> Result<Option<Vec<Range>>, AllocError> {
+    let Ok(ident) = header::read_ident(front) else {
+        return Ok(None);
+    };
+    let Ok(header) = header::read_header(front, ident) else {
         return Ok(None);
     };
     let Some(headers) = headers_range(ident, header) else {
@@ -370,20 +424,32 @@ fn planned<S: PartSource>(alloc: Global, source: &S) -> Result<Option<Vec<Range>
         return Ok(None);
     };
     let len = source.len();
+    let headers = with_first(headers, ident, len);
     let ranges = wanted_ranges(alloc, &sections, &names, name_table, headers, len)?;
     Ok(Some(joined(alloc, &ranges)?))
 }
 
-// The parts of a file that are wanted; none where these can't be told or read.
+// The parts of a file that are wanted, or what refuses it; none where these can't be told or read.
 fn read_planned<S: PartSource>(alloc: Global, source: &S) -> Result<Option<FileImage>, AllocError>
+    ensures gives { IfSome (S.bytes source.now) (λ bytes. IfOk result (λ found. IfSome found (λ f.
+        Shows f bytes))) }
+{
+    let Some(front) = read_front(alloc, source)? else {
+        return Ok(None);
+    };
+    match planned(alloc, source, &front)? {
+        Some(ranges) => read_ranges(alloc, source, &ranges),
+        None => Ok(Some(front)),
+    }
+}
+
+// The same, if they are all that is wanted.
+fn read_checked<S: PartSource>(alloc: Global, source: &S) -> Result<Option<FileImage>, AllocError>
     ensures gives { IfSome (S.bytes source.now) (λ bytes. IfOk result (λ found. IfSome found (λ f.
         Shows f bytes))) }
     ensures whole { IfOk result (λ found. IfSome found (λ f. has_wanted f ≡ true)) }
 {
-    let Some(ranges) = planned(alloc, source)? else {
-        return Ok(None);
-    };
-    let Some(file) = read_ranges(alloc, source, &ranges)? else {
+    let Some(file) = read_planned(alloc, source)? else {
         return Ok(None);
     };
     if !has_wanted(alloc, &file)? {
@@ -392,13 +458,14 @@ fn read_planned<S: PartSource>(alloc: Global, source: &S) -> Result<Option<FileI
     Ok(Some(file))
 }
 
-/// The parts of an ELF file that lookups read, or all of a file of which these can't be told; none
-/// where the file can't be read.
+/// The parts of an ELF file that lookups read, or what refuses a file; none where the file can't be
+/// read. A file of fewer bytes than an ELF file's header may have is read whole.
 ///
 /// They are the header, the section headers with their names, the symbols with theirs, and the
 /// sections of debug information that `SectionId` names, also those of split files and compressed
-/// ones. Fails where a growth was refused. Source: System V ABI, Object Files; DWARF 5, section
-/// 7.5. Own: which parts.
+/// ones. What refuses a file is its first 64 bytes, with the header of section 0 where that has the
+/// number of section headers. Fails where a growth was refused. Source: System V ABI, Object Files;
+/// DWARF 5, section 7.5. Own: which parts.
 pub fn read_wanted<S: PartSource>(
     alloc: Global,
     source: &S,
@@ -409,7 +476,7 @@ pub fn read_wanted<S: PartSource>(
     ensures found { IfSome (S.bytes source.now) (λ _. IfOk result (λ found.
         is_some found ≡ true)) }
 {
-    match read_planned(alloc, source)? {
+    match read_checked(alloc, source)? {
         Some(file) => Ok(Some(file)),
         None => read_whole(alloc, source),
     }

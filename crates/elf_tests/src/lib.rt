@@ -10,6 +10,8 @@ mod damage;
 #[cfg(test)]
 mod growths;
 #[cfg(test)]
+mod parts;
+#[cfg(test)]
 mod sections;
 #[cfg(test)]
 mod symbols;

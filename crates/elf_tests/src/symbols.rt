@@ -121,7 +121,7 @@ const REACHED: &str = "\
 40; open 40
 ff ff ff ff ff ff ff fd; open 40
 ff ff ff ff ff ff ff fe; last ff ff ff ff ff ff ff fe
-ff ff ff ff ff ff ff ff; last ff ff ff ff ff ff ff fe
+ff ff ff ff ff ff ff ff; none
 ";
 
 // The first probe that has another symbol than it should.

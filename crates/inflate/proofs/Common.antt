@@ -22,7 +22,7 @@ unfoldable pub use Rattle.inflate.specs.Reader.{bits_and_bytes}
 pub use Rattle.inflate.specs.Reading.{OrFault, fault_if, ◌>>=◌}
 pub use Rattle.inflate.specs.Stream.{is_bad_header, sums_from}
 unfoldable pub use Rattle.inflate.specs.Stream.{adler32_of, header_at, sum_at}
-pub use Rattle.inflate.specs.Tables.{packed, short_bits}
-unfoldable pub use Rattle.inflate.specs.Tables.{counts_to, sorted_to, table_entry, table_of}
+pub use Rattle.inflate.specs.Tables.{AreCounts, ArePlaced, ArePlaces, AreSorted, IsLevel, entry_of, with_bit}
+unfoldable pub use Rattle.inflate.specs.Tables.{sorted_to, table_to}
 pub use Rattle.inflate.specs.declared.fault.InflateFault.{InflateFault}
 pub use Rattle.inflate.specs.declared.fault.InflateFault.TheVariants.{BadBlock, BadCode, BadDistance, BadHeader, BadLengths, Cut, OutOfMemory, TooLong, WrongSum}

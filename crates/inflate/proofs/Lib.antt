@@ -7,4 +7,5 @@ pub mod FaultLemmas
 pub mod BlockLemmas
 pub mod MemoryLemmas
 pub mod OutputLemmas
+pub mod PlaceLemmas
 pub mod TableLemmas

@@ -1,8 +1,8 @@
 //! Worked command lines.
 
-use crate::command_line::{Request, WordFault, command_line};
+use crate::command_line::{Misuse, Request, WordFault, command_line};
 use crate::options::{Options, Probes};
-use addr2line::CompressedSections;
+use addr2line::{CompressedSections, Style};
 use clap::error::ErrorKind;
 use std::alloc::Global;
 use std::test::Fail;
@@ -16,8 +16,17 @@ fn words_in(alloc: Global, line: &str) -> Result<Vec<String>, Fail> {
     Ok(words)
 }
 
+// 1 for legacy names, 2 for v0 names too.
+fn names_digit(names: Option<Style>) -> u32 {
+    match names {
+        None => 0,
+        Some(Style::Legacy) => 1,
+        Some(Style::Rust) => 2,
+    }
+}
+
 // At the front 2 for `All`, 3 for addresses or 4 for lines; then a digit for each switch, in the
-// order of `Style`.
+// order of `Style`, and at last 1 for the texts of LLVM or 2 for JSON.
 fn digits_of(options: &Options) -> u32 {
     let probes = match &options.probes {
         Probes::All => 20_000_000,
@@ -30,8 +39,9 @@ fn digits_of(options: &Options) -> u32 {
         + u32::from(options.style.inlines) * 10_000
         + u32::from(options.style.addresses) * 1_000
         + u32::from(options.style.basenames) * 100
-        + u32::from(options.style.demangle) * 10
+        + names_digit(options.style.names) * 10
         + u32::from(options.style.llvm)
+        + u32::from(options.style.json) * 2
 }
 
 // The digits of what a line asks for; below ten for what is wrong with it.
@@ -39,7 +49,11 @@ fn code_of(alloc: Global, line: &str) -> Result<u32, Fail> {
     let words = words_in(alloc, line)?;
     Ok(match command_line(alloc, words.as_slice()) {
         Ok(request) => digits_of(&request.options),
-        Err(WordFault::Usage) => 1,
+        Err(WordFault::Misuse(Misuse::AllAndAddresses)) => 1,
+        Err(WordFault::Misuse(Misuse::NoFile)) => 6,
+        Err(WordFault::Misuse(Misuse::OutputStyle)) => 7,
+        Err(WordFault::Misuse(Misuse::RecursionLimit)) => 8,
+        Err(WordFault::Misuse(Misuse::NameStyle)) => 9,
         Err(WordFault::Clap(error)) => match error.kind() {
             ErrorKind::DisplayHelp => 2,
             ErrorKind::DisplayVersion => 3,
@@ -92,7 +106,18 @@ fn each_switch_stands_by_its_letter_and_its_name(rt: HostRuntime) -> Result<(), 
         ("addr2line -e f --basenames", 40_000_100),
         ("addr2line -e f -C", 40_000_010),
         ("addr2line -e f --demangle", 40_000_010),
+        ("addr2line -e f --demangle=rust", 40_000_020),
+        ("addr2line --demangle=auto -e f -C", 40_000_020),
+        ("addr2line -e f -C --demangle=none", 40_000_000),
+        ("addr2line --demangle -e f -- --demangle=rust", 30_000_010),
         ("addr2line -e f --llvm", 40_000_001),
+        ("addr2line -e f --output-style=LLVM", 40_000_001),
+        ("addr2line -e f --output-style JSON", 40_000_002),
+        ("addr2line -e f --output-style=GNU", 40_000_000),
+        ("addr2line -e f --llvm --output-style=GNU", 40_000_000),
+        ("addr2line -e f --llvm --output-style=JSON", 40_000_002),
+        ("addr2line -e f -b elf64-x86-64 --functions", 41_000_000),
+        ("addr2line -e f --target=elf32-i386", 40_000_000),
         ("addr2line -afpsiCe f --llvm 10", 31_111_111),
         ("addr2line -e f --all", 20_000_000),
         ("addr2line -e f 10 -f", 31_000_000),
@@ -106,10 +131,21 @@ fn each_switch_stands_by_its_letter_and_its_name(rt: HostRuntime) -> Result<(), 
 #[test]
 fn words_that_ask_for_nothing_are_told_apart(rt: HostRuntime) -> Result<(), Fail> {
     let cases = [
-        ("addr2line", 1),
-        ("addr2line 10", 1),
+        ("addr2line", 6),
+        ("addr2line 10", 6),
         ("addr2line -e f --all 10", 1),
-        ("addr2line --all", 1),
+        ("addr2line --all", 6),
+        ("addr2line -e f --output-style=gnu", 7),
+        ("addr2line -e f --llvm --output-style=", 7),
+        ("addr2line -e f --demangle=gnu-v3", 9),
+        ("addr2line -e f --demangle=", 9),
+        ("addr2line -e f --demangle=rust --demangle=rust", 4),
+        ("addr2line -e f -r", 8),
+        ("addr2line -e f -R", 8),
+        ("addr2line --no-recurse-limit", 8),
+        ("addr2line -e f --recurse-limit --output-style=x", 8),
+        ("addr2line -v", 3),
+        ("addr2line -e f -v 10", 3),
         ("addr2line --help", 2),
         ("addr2line -h", 2),
         ("addr2line --version", 3),

@@ -86,6 +86,42 @@ const LINKED: [Case; 4] = [
     ),
 ];
 
+// The members are those of llvm-symbolizer 22, and `SymName`.
+const OBJECTS: [Case; 4] = [
+    (
+        &["--output-style=JSON", "24"],
+        b"",
+        "{\"Address\":\"0x24\",\"SymName\":\"_ZN4test1a2bcE\",\"Symbol\":[\
+{\"Column\":0,\"FileName\":\"/w/a.c\",\"FunctionName\":\"g\",\"Line\":3},\
+{\"Column\":0,\"FileName\":\"/w/a.c\",\"FunctionName\":\"_ZN4test1a2bcE\",\"Line\":7}]}\n",
+        "",
+        Exit::Done,
+    ),
+    (
+        &["--output-style=JSON", "-s", "-C", "2a"],
+        b"",
+        "{\"Address\":\"0x2a\",\"SymName\":\"test::a::bc\",\"Symbol\":[\
+{\"Column\":0,\"FileName\":\"a.c\",\"FunctionName\":\"test::a::bc\",\"Line\":3}]}\n",
+        "",
+        Exit::Done,
+    ),
+    (
+        &["--output-style=JSON", "30", "zz"],
+        b"",
+        "{\"Address\":\"0x30\",\"SymName\":\"\",\"Symbol\":[]}\n\
+{\"Address\":null,\"SymName\":\"\",\"Symbol\":[]}\n",
+        "",
+        Exit::Done,
+    ),
+    (
+        &["--output-style=JSON", "-j", ".text", "20"],
+        b"",
+        "{\"Address\":\"0x20\",\"SymName\":\"\",\"Symbol\":[]}\n",
+        "",
+        Exit::Done,
+    ),
+];
+
 const ADDRESSES: [Case; 11] = [
     (&["-j", ".text", "14"], b"", "/w/a.c:3\n", "", Exit::Done),
     (&["-j", ".text", "20"], b"", "??:0\n", "", Exit::Done),
@@ -158,6 +194,12 @@ fn frames_are_printed_as_the_options_say(rt: HostRuntime) -> Result<(), Fail> {
 #[test]
 fn the_last_frame_has_the_name_of_the_symbol(rt: HostRuntime) -> Result<(), Fail> {
     assert_eq!(rt; first_wrong(rt.alloc(), SYMBOLS, LINKED.as_slice())?, 4);
+    Ok(())
+}
+
+#[test]
+fn an_address_is_an_object_of_json(rt: HostRuntime) -> Result<(), Fail> {
+    assert_eq!(rt; first_wrong(rt.alloc(), SYMBOLS, OBJECTS.as_slice())?, 4);
     Ok(())
 }
 

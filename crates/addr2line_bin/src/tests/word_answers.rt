@@ -31,13 +31,17 @@ What is looked up:
       --all             Each address that has a line [default: the ones that are given]
 
 What is printed:
-  -f, --functions     The function, then the location [default: the location]
-  -p, --pretty-print  One line for each function [default: a line for each part]
-  -i, --inlines       Inlined functions, the innermost first [default: that one alone]
-  -a, --addresses     The address first [default: not printed]
-  -s, --basenames     The last part of each path [default: the path whole]
-  -C, --demangle      Names as in the source, for Rust [default: as the linker has them]
-      --llvm          The texts of llvm-symbolizer [default: those of GNU addr2line]
+  -f, --functions             The function, then the location [default: the location]
+  -p, --pretty-print          One line for each function [default: a line for each part]
+  -i, --inlines               Inlined functions, the innermost first [default: that one alone]
+  -a, --addresses             The address first [default: not printed]
+  -s, --basenames             The last part of each path [default: the path whole]
+  -C, --demangle              Names as in the source, legacy ones of Rust; =rust v0 too, =auto, =none
+      --llvm                  The texts of llvm-symbolizer [default: those of GNU addr2line]
+      --output-style <STYLE>  GNU, LLVM as --llvm, or JSON, an object for each address [default: GNU]
+
+What scripts pass:
+  -b, --target <NAME>  Taken, and nothing comes of it: the file is ELF
 
 Example:
   a2l -f -i -p -e program 0x1149
@@ -68,7 +72,30 @@ For more information, try '--help'.
 // What `--version` prints.
 const VERSION_LINE: &str = "a2l 0.1.0, a port of addr2line 0.27.1\n";
 
-const USAGE: &str = "a2l: usage: a2l -e FILE [OPTION].. [ADDR..]\n";
+const NO_FILE: &str = "\
+a2l: no file: -e names it, and a.out is not taken without
+a2l: usage: a2l -e FILE [OPTION].. [ADDR..]
+";
+
+const ALL_AND_ADDRESSES: &str = "\
+a2l: --all stands beside no address
+a2l: usage: a2l -e FILE [OPTION].. [ADDR..]
+";
+
+const RECURSION_LIMIT: &str = "\
+a2l: -r and -R are not taken: how deep names are read is fixed
+a2l: usage: a2l -e FILE [OPTION].. [ADDR..]
+";
+
+const NAME_STYLE: &str = "\
+a2l: --demangle is rust, auto or none
+a2l: usage: a2l -e FILE [OPTION].. [ADDR..]
+";
+
+const OUTPUT_STYLE: &str = "\
+a2l: --output-style is GNU, LLVM or JSON
+a2l: usage: a2l -e FILE [OPTION].. [ADDR..]
+";
 
 #[test]
 fn the_name_is_the_last_part_of_word_0(rt: HostRuntime) -> Result<(), Fail> {
@@ -90,15 +117,24 @@ fn the_name_is_the_last_part_of_word_0(rt: HostRuntime) -> Result<(), Fail> {
 
 #[test]
 fn help_and_usage_go_to_their_streams(rt: HostRuntime) -> Result<(), Fail> {
-    let cases: [(&[&str], &str, &str, u8); 8] = [
+    let cases: [(&[&str], &str, &str, u8); 12] = [
         (&["a2l", "--help"], HELP, "", 0),
         (&["a2l", "-h"], HELP, "", 0),
         (&["a2l", "--version"], VERSION_LINE, "", 0),
         (&["a2l", "-V"], VERSION_LINE, "", 0),
         (&["a2l", "-e", "f", "-x"], "", UNKNOWN, 2),
         (&["a2l", "-e", "f", "--functoins"], "", MISTYPED, 2),
-        (&["a2l", "10"], "", USAGE, 2),
-        (&["a2l", "-e", "f", "--all", "10"], "", USAGE, 2),
+        (&["a2l", "-v"], VERSION_LINE, "", 0),
+        (&["a2l", "10"], "", NO_FILE, 2),
+        (&["a2l", "-e", "f", "--all", "10"], "", ALL_AND_ADDRESSES, 2),
+        (&["a2l", "-e", "f", "-r"], "", RECURSION_LIMIT, 2),
+        (&["a2l", "-e", "f", "--demangle=java"], "", NAME_STYLE, 2),
+        (
+            &["a2l", "-e", "f", "--output-style=XML"],
+            "",
+            OUTPUT_STYLE,
+            2,
+        ),
     ];
     for (given, out, err, status) in cases {
         let mut streams = Streams::sound(rt.alloc());

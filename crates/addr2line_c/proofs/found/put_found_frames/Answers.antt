@@ -6,7 +6,7 @@ use Rattle.addr2line_c.proofs.found.put_found_frames.Goals as goal
 
 pub returns-after-found-out-clause-gives : goal.returns-after-found-out-clause-gives
 returns-after-found-out-clause-gives g c = λ given told.
-    let d = c.args.demangles in
+    let d = c.args.names in
     let frames = frames_left c.in-Ok.frames in
     let new = c.put_frames.new in
     let count = c.in-Ok-put_frames.found in

@@ -5,7 +5,7 @@ use Rattle.addr2line_c.proofs.frames.put_frames.Goals as goal
 
 pub loop-frame-preserved : goal.loop-frame-preserved
 loop-frame-preserved g c =
-    let d = c.args.demangles in
+    let d = c.args.names in
     let f = as_frame g.R.Reader.section c.in-Some.frame in
     let all = frames_left c.args.frames in
     let left = frames_left c.next.new.self in

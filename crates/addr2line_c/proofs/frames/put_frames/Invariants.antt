@@ -5,7 +5,7 @@ use Rattle.addr2line_c.proofs.frames.put_frames.Given as goal
 -- the frames so far are written, and the others are left
 abbrev pub invariant-loop-frame : goal.invariant-loop-frame
 invariant-loop-frame g l = record {
-  so : WroteSome (frame_texts l.fn.demangles) (written_frame l.fn.demangles) (frames_left l.fn.frames) (frames_left l.frames) l.count l.out l.needed l.buffer;
+  so : WroteSome (frame_texts l.fn.names) (written_frame l.fn.names) (frames_left l.fn.frames) (frames_left l.frames) l.count l.out l.needed l.buffer;
   out : length l.out ≡ length l.fn.out;
   buffer : length l.buffer ≡ length l.fn.buffer;
 }

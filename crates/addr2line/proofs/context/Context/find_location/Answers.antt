@@ -1,4 +1,4 @@
-use Rattle.addr2line.proofs.Common.{[], cover, Err, None, Ok, ap, refl, sym, ◌∙◌, ◌≡◌, err_from_is_err_and}
+use Rattle.addr2line.proofs.Common.{[], cover, Err, None, Ok, Option, UnitRange, ap, refl, sym, ◌∙◌, ◌≡◌, err_from_is_err_and}
 use Rattle.addr2line_lines.specs.LentLocation.{as_location}
 use Rattle.addr2line_units.proofs.LocationsWalkLemmas.{location_told}
 use Rattle.addr2line.proofs.ContextLemmas.{after_lookup, covers_none, finds_none, found_stopped, has_no_fault, located_alone, located_context, location_is, ready_told, stored_now, told_uncovered, uncovered_by}
@@ -18,7 +18,7 @@ returns-in_err-walk g c =
     let e = rw c.find-ranges.ensures.gives at c.in_err-walk.ensures in
     let now = c.walk.new.self in
     let x = c.in_err-walk.field-0.0 in
-    let told = location_told {X = Unit {0}} c.args.probe (cover c.args.probe s.ranges) s.units (Err x) now.stop e.gives in
+    let told = location_told {X = Option UnitRange} c.args.probe (cover c.args.probe s.ranges) s.units (Err x) now.stop e.gives in
     let is = location_is s.ranges s.units i c.args.probe in
     let no : (cover c.args.probe s.ranges ≡ [] → ⊥) = (λ none. has_no_fault s.ranges s.units i c.args.probe none x (told (told_uncovered s.ranges s.units i g.R.Reader.shares c.args.probe (Err x) now e.after none))) in
     rw (p.1, p.2, sym c.self.view_is) (
@@ -50,7 +50,8 @@ returns g c =
     let e = rw c.find-ranges.ensures.gives at c.in_ok-walk.ensures in
     let now = c.walk.new.self in
     let found = c.location.result in
-    let told = location_told {X = Unit {0}} c.args.probe (cover c.args.probe s.ranges) s.units (Ok tt) now.stop e.gives ∙ ap (λ l. Ok l) (sym c.location.ensures.gives) in
+    let place : Option UnitRange = c.in_ok-walk.field-0 in
+    let told = location_told {X = Option UnitRange} c.args.probe (cover c.args.probe s.ranges) s.units (Ok place) now.stop e.gives ∙ ap (λ l. Ok l) (sym c.location.ensures.gives) in
     let gives = location_is s.ranges s.units i c.args.probe ∙ told in
     let nothing : (cover c.args.probe s.ranges ≡ [] → found ≡ None) = (λ none. finds_none s.ranges s.units i c.args.probe none as_location found told) in
     rw (sym c.self.view_is) (
@@ -58,8 +59,8 @@ returns g c =
         refl,
         (λ _. tt),
         record {
-          after = after_lookup s.ranges s.units i g.R.Reader.shares c.args.probe (Ok tt) now e.after (Ok found) (λ h. tt) (λ h. tt) (found_stopped as_location found now.stop c.location.ensures.gives);
-          stored = stored_now s.ranges s.units i g.R.Reader.shares c.args.probe (Ok tt) now e.after ∙ e.gives;
+          after = after_lookup s.ranges s.units i g.R.Reader.shares c.args.probe (Ok place) now e.after (Ok found) (λ h. tt) (λ h. tt) (found_stopped as_location found now.stop c.location.ensures.gives);
+          stored = stored_now s.ranges s.units i g.R.Reader.shares c.args.probe (Ok place) now e.after ∙ e.gives;
           refused = tt;
           no_memory = λ none. tt;
         },

@@ -1,7 +1,15 @@
-use Rattle.addr2line.proofs.Common.{Some, inl, ap, length, option_map, refl, subst, sym, ◌<◌, ◌∙◌, ExactlyUnlessOom, IfOutput, answered, found_at, loads_at, with_none}
+use Rattle.addr2line.proofs.Common.{Some, inl, ap, length, option_map, refl, subst, sym, ◌<◌, ◌∙◌, ExactlyUnlessOom, IfOutput, answered, found_at, loads_at, lookup_stop, with_none}
+use Rattle.addr2line.proofs.AnsweredLemmas.{waits_is}
+use Rattle.addr2line.proofs.AskedLemmas.{passed_answered}
 use Rattle.addr2line.proofs.AfterLemmas.{if_load, if_output, resume_refused}
 use Rattle.addr2line.proofs.SkipLemmas.{skip_told}
 use Rattle.addr2line.proofs.suspended.SuspendedSplitDwarfLoadLookupContinuation.resume.Goals as goal
+
+pub look_up-requires : goal.look_up-requires
+look_up-requires g c =
+    let faults = g.K.LookupKind.faults in
+    let l = c.args.self in
+    λ names. ((refl, tt), passed_answered faults l.probe l.number (option_map (λ x. x.value) c.args.input) l.place l.ctx.now c.answer.new.self (waits_is l.number (lookup_stop faults l.ctx.now.sections l.ctx.now.answers l.probe) l.stands) c.in-Ok.ensures.after.after l.passed)
 
 pub returns-in-Ok : goal.returns-in-Ok
 returns-in-Ok g c =
@@ -12,9 +20,9 @@ returns-in-Ok g c =
     let answers = l.ctx.now.answers in
     let mid = c.answer.new.self in
     let a = c.in-Ok.ensures.after.after in
-    let r = c.begin.result in
-    let e = c.begin.ensures.gives.comes_to in
-    let f = c.begin.follows in
+    let r = c.look_up.result in
+    let e = c.look_up.ensures.gives.comes_to in
+    let f = c.look_up.follows in
     let gives = subst (λ s. IfOutput r (λ o. ExactlyUnlessOom (λ i. Some (kind.see i)) o (found_at faults kind.value_of s (answered d answers l.number (option_map (λ x. x.value) c.args.input)) l.probe))) a.sections
     (subst (λ x. IfOutput r (λ o. ExactlyUnlessOom (λ i. Some (kind.see i)) o (found_at faults kind.value_of mid.sections x l.probe))) a.answers e.output) in (
       (refl, f.holds, if_output _ _ r (λ o h. inl (mid, a, h)) f.holds-at-none),

@@ -1,15 +1,15 @@
 use Rattle.addr2line_units.proofs.Common.{rules, List, ap, sym, subst, ◌∙◌, filter, AllByRecursion, IsPartitionPoint-from_clause, IsPartitionedBy-leb, in_order}
 use Rattle.addr2line_units.specs.declared.index.IndexedRange.{IndexedRange}
-use Rattle.addr2line_units.specs.IndexLeastBegins.{AreLeastBegins, EndFits, is_between}
+use Rattle.addr2line_units.specs.IndexLeastBegins.{AreLeastBegins, AreOrdered, EndFits, is_between}
 use Rattle.addr2line_units.specs.IndexCover.{ends_sooner}
-use Rattle.addr2line_units.proofs.IndexLeastBeginLemmas.{EndsRise, dropped_least, ends_by, ends_rise, found_from, none_past_greatest}
+use Rattle.addr2line_units.proofs.IndexLeastBeginLemmas.{EndsRise, dropped_least, dropped_ordered, ends_by, ends_rise, found_from, none_past_greatest}
 use Rattle.addr2line_units.proofs.Facts.{rest_is}
 use Rattle.addr2line_units.proofs.index.UnitRanges.find_between.Goals as goal
 
 pub invariant_of-result : goal.invariant_of-result
 invariant_of-result c =
     let same = rest_is c.partition_point-first.result _ _ c.deref-2.ensures.value in
-    record { least = subst AreLeastBegins (sym same) (dropped_least c.partition_point-first.result _ c.self.invariant.least) }
+    record { least = subst AreLeastBegins (sym same) (dropped_least c.partition_point-first.result _ c.self.invariant.least); ordered = subst AreOrdered (sym same) (dropped_ordered c.partition_point-first.result _ c.self.invariant.ordered) }
 
 pub returns : goal.returns
 returns c =

@@ -1,5 +1,6 @@
-use Rattle.elf.proofs.Common.{◌≡◌, ◌∙◌, ◌∷◌, List, None, Bor, get_or, is_some, option_map, ap, subst, IfSome, find, Piece, Image, HasPart, piece_holds, image_bytes, is_held}
+use Rattle.elf.proofs.Common.{◌≡◌, ◌∙◌, ◌∷◌, List, None, Bor, get_or, is_some, option_map, ap, subst, sym, IfSome, find, Piece, Image, HasPart, piece_holds, image_bytes, is_held, piece_end}
 use Rattle.elf.proofs.ImageLemmas.{piece_found}
+use Rattle.elf.specs.Pieces.{AreInOrder}
 use Rattle.elf.proofs.image.FileImage.piece.Goals as goal
 
 pub returns : goal.returns
@@ -15,3 +16,8 @@ returns c =
     let P : Image → Type 0 = λ (v : Image). IfSome r (λ p. HasPart start len v p.now) × (is_some r ≡ is_held start len v) × (r ≡ None → len ≡ 1 → get_or (image_bytes v) start 0 ≡ 0) in
     let seen = subst P c.self.view_is all in
     record { gives = seen.0; some = seen.1; none = seen.2 }
+
+pub find_piece-requires : goal.find_piece-requires
+find_piece-requires c =
+    let f = c.self.inside in
+    record { in_order = subst (AreInOrder f.len) (sym c.deref.ensures.value) (piece_end f.first, c.self.invariant.1) }

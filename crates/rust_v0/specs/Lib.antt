@@ -1,0 +1,9 @@
+pub mod Numbers
+pub mod Identifiers
+pub mod State
+pub mod Grammar
+pub mod Shown
+pub mod Leaves
+pub mod Reads
+pub mod Name
+pub mod NameLaws

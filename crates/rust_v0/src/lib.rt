@@ -1,0 +1,17 @@
+//! Rust's v0 names (RFC 2603 and what rustc added): the text that each stands for.
+#![tactic(auto)]
+
+mod grammar;
+mod identifiers;
+mod laws;
+mod name;
+mod numbers;
+mod printer;
+mod reading;
+mod stop;
+
+pub use crate::laws::{names_without_text, worked_name};
+pub use crate::name::demangle_v0;
+
+#[cfg(test)]
+mod tests;

@@ -1,5 +1,5 @@
 -- Addresses of rows that are taken one after another.
-use Rattle.addr2line_bin.proofs.Common.{◌≡◌, ◌<◌, ℕ, List, [], ◌∷◌, length, Option, Some, None, Result, Ok, Err, refl, arith}
+use Rattle.addr2line_bin.proofs.Common.{◌≡◌, ℕ, List, [], ◌∷◌, Option, Some, None, Result, Ok, Err, refl}
 use Rattle.gimli_read.specs.declared.error.Error.{Error}
 use Rattle.addr2line_lines.specs.RangeLocations.{LocatedSpan}
 use Rattle.addr2line_units.specs.LocationsRange.{YieldsRow}
@@ -21,6 +21,3 @@ no_row (Err x ∷ rest) r new y e = refl
 pub kept_more : (old new : List (Result LocatedSpan Error)) (s : LocatedSpan) (kept all more : List ℕ) → old ≡ Ok s ∷ new → rising_after kept (addresses_in old) ≡ all → more ≡ keep_rising kept s.address
     → rising_after more (addresses_in new) ≡ all
 kept_more old new s kept all more e inv k = rw k (rw e at inv)
-
-pub fewer_rows : (old new : List (Result LocatedSpan Error)) (s : LocatedSpan) → old ≡ Ok s ∷ new → length new < length old
-fewer_rows old new s e = rw e (omega arith)

@@ -1,5 +1,5 @@
 -- Objects of JSON have no float.
-use Rattle.addr2line_bin.proofs.Common.{◌≡◌, ◌∙◌, ℕ, List, [], ◌∷◌, ◌++◌, Bool, true, false, Option, Some, None, Ok, Err, ap, append_assoc, map, map-append, refl}
+use Rattle.addr2line_bin.proofs.Common.{◌≡◌, ◌∙◌, ℕ, List, [], ◌∷◌, ◌++◌, false, Option, Some, None, Ok, Err, ap, append_assoc, map, map-append, refl}
 use Rattle.std.specs.Prelude.{◌||◌}
 use Rattle.serde_json.specs.Data.{Data}
 use Rattle.serde_json.specs.View.{items_of, view}
@@ -9,11 +9,7 @@ use Rattle.addr2line_units.specs.Frames.{FrameRecord}
 use Rattle.addr2line_bin.specs.Common.{Loading}
 use Rattle.addr2line_bin.specs.declared.options.Style.{Style}
 use Rattle.addr2line_bin.specs.FrameTexts.{symbol_before}
-use Rattle.addr2line_bin.specs.JsonTexts.{address_data, answer_data, frame_data, frames_data}
-
-address_has_none : (probe : Option ℕ) → has_float (address_data probe) ≡ false
-address_has_none None = refl
-address_has_none (Some n) = refl
+use Rattle.addr2line_bin.specs.JsonTexts.{answer_data, frame_data, frames_data}
 
 frames_have_none : (style : Style) (symbol : Option (List ℕ)) (frames : List FrameRecord)
     → items_have_float (items_of (frames_data style symbol frames)) ≡ false

@@ -1,18 +1,13 @@
 -- Words that files have (on specs/ResponseFiles).
-use Rattle.addr2line_bin.proofs.Common.{◌≡◌, ◌∙◌, ◌+◌, ◌<◌, ℕ, Bool, true, false, cond, IfSome, List, [], ◌∷◌, ◌++◌, Option, Some, None, ap, get_or, length, refl, string_bytes, sym, take}
+use Rattle.addr2line_bin.proofs.Common.{◌≡◌, ◌∙◌, ℕ, Bool, true, false, cond, IfSome, List, [], ◌∷◌, ◌++◌, Option, Some, None, ap, refl, sym}
 use Rattle.std.specs.Prelude.{◌||◌, flat_map, option_and_then}
 use Rattle.std.specs.List.{list_any}
 use Rattle.std.specs.Option.{option_map_or}
-use Rattle.std.specs.declared.alloc.Global.{Global}
-use Rattle.std.specs.declared.string.String.{String}
-use Rattle.std.proofs.lemmas.List.{flat_map_more, map_more}
 use Rattle.addr2line.specs.Files.{Files}
-use Rattle.addr2line_bin.specs.CommandLine.{texts_in}
 use Rattle.addr2line_bin.specs.Common.{Text}
-use Rattle.addr2line_bin.specs.ResponseFiles.{expanded, has_response, is_response, response_path, words_for, words_in}
+use Rattle.addr2line_bin.specs.ResponseFiles.{expanded, has_response, is_response, response_path, text_in, words_for, words_in}
 use Rattle.std.specs.Str.{IsUtf8, is_utf8}
 use Rattle.std.proofs.lemmas.Str.{IsUtf8-from_is_utf8, is_utf8-from_IsUtf8}
-use Rattle.addr2line_bin.specs.ResponseFiles.{text_in}
 
 pub text_some : (text bytes : List ℕ) → text ≡ bytes → IsUtf8 bytes → Some text ≡ text_in bytes
 text_some text bytes e h = ap Some e ∙ ap (λ (b : Bool). cond b (Some bytes) None) (sym (is_utf8-from_IsUtf8 bytes h))
@@ -23,18 +18,6 @@ text_none bytes h = by_cases (is_utf8 bytes) refl
     by_cases : (b : Bool) → is_utf8 bytes ≡ b → None ≡ cond b (Some bytes) None
     by_cases true e = absurd (h (IsUtf8-from_is_utf8 bytes e))
     by_cases false e = refl
-
--- one more word, with those that it stands for
-pub words_next : (known : Option Files) (start now next : List Text) (words : List (String Global)) (i : ℕ) (w : String Global) → i < length words → w ≡ get_or words i w
-    → IfSome known (λ held. now ≡ start ++ flat_map (words_for held) (texts_in (take i words)))
-    → IfSome known (λ held. next ≡ now ++ words_for held (string_bytes w))
-    → IfSome known (λ held. next ≡ start ++ flat_map (words_for held) (texts_in (take (i + 1) words)))
-words_next None start now next words i w lt at inv e = tt
-words_next (Some held) start now next words i w lt at inv e =
-    e ∙ ap (λ xs. xs ++ words_for held (string_bytes w)) inv
-    ∙ flat_map_more (words_for held) start (texts_in (take i words)) (string_bytes w)
-    ∙ ap (λ xs. start ++ flat_map (words_for held) xs)
-    (ap (λ x. texts_in (take i words) ++ (string_bytes x ∷ [])) at ∙ sym (map_more string_bytes words i w lt))
 
 -- a word that names no such file stands for itself
 word_stays : (held : Files) (word : Text) → is_response word ≡ false → words_for held word ≡ word ∷ []

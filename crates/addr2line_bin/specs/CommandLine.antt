@@ -1,8 +1,8 @@
 -- What the words of the command line ask for, by the matches of the command that takes them.
 -- Own: `-e` has a value; `--all` stands beside no address word; where neither `--all` nor an
 -- address word stands, the lines of standard input are asked for.
--- Own: a style is asked for by its name, or LLVM's by `--llvm`; one of names stands after `=`. How deep names are read is fixed,
--- so the options with which other programs set it are refused.
+-- Own: a style is asked for by its name, or LLVM's by `--llvm`; one of names stands after `=`. How
+-- deep names are read is fixed, so the options with which other programs set it are refused.
 use Rattle.std.specs.Prelude.{◌≡◌, ◌≢◌, ◌⊎◌, Bool, true, false, ◌&&◌, ◌||◌, not, List, [], map}
 use Rattle.std.specs.Prelude.{Option, Some, None, Result, Ok, Err, if◌then◌else◌, is_ok, is_some, nat_eq, option_map, codes, string_bytes}
 use Rattle.std.specs.Option.{option_map_or}
@@ -73,7 +73,8 @@ output_of rows = option_map_or named_output (first_of (codes "output-style") row
 abbrev pub asks_recursion : List Row → Bool
 asks_recursion rows = is_on (codes "recurse-limit") rows || is_on (codes "no-recurse-limit") rows
 
--- which names are demangled, if any are: `none` before `rust` and `auto`, and these before none named
+-- which names are demangled, if any are: `none` before `rust` and `auto`, and these before an option
+-- without a style
 abbrev pub asked_names : List Row → Option NameStyle
 asked_names rows = if is_on (codes "demangle-none") rows then None
     else (if is_on (codes "demangle-rust") rows || is_on (codes "demangle-auto") rows

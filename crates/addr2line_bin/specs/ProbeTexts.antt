@@ -96,7 +96,8 @@ IsObjectAt answers c probe (Some address) text = (frames : Loading (List FrameRe
 
 -- such an object, and the line of a fault, are added to both texts
 abbrev pub AddsObject : FileAnswers → RunContext → Option ℕ → Option ℕ → Texts → Texts → Type 0
-AddsObject answers c probe address old new = (text : ProbeText) × IsObjectAt answers c probe address text
+AddsObject answers c probe address old new = (text : ProbeText)
+    × IsObjectAt answers c probe address text
     × (string_bytes new.out ≡ string_bytes old.out ++ text.out)
     × (string_bytes new.err ≡ string_bytes old.err ++ text.err)
 

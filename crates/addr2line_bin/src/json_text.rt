@@ -94,7 +94,8 @@ fn frame_value<R: Reader>(
     }
 }
 
-// A first frame, if there is one, and those after it, the last by the symbol's name if there is one.
+// A first frame, if there is one, and those after it, the last by the symbol's name if there is
+// one.
 fn frame_values<'ctx, R: Reader>(
     alloc: Global,
     style: Style,

@@ -9,16 +9,22 @@ use Rattle.addr2line_units.specs.Frames.{FrameRecord}
 use Rattle.addr2line_bin.specs.Common.{Loading}
 use Rattle.addr2line_bin.specs.declared.options.Style.{Style}
 use Rattle.addr2line_bin.specs.FrameTexts.{symbol_before}
-use Rattle.addr2line_bin.specs.JsonTexts.{answer_data, frame_data, frames_data}
+use Rattle.addr2line_bin.specs.JsonTexts.{answer_data, frame_data, frames_data, shown_data}
 
 frames_have_none : (style : Style) (symbol : Option (List ℕ)) (frames : List FrameRecord)
     → items_have_float (items_of (frames_data style symbol frames)) ≡ false
 frames_have_none style symbol [] = refl
 frames_have_none style symbol (f ∷ rest) = frames_have_none style symbol rest
 
+shown_have_none : (style : Style) (symbol : Option (List ℕ)) (frames : List FrameRecord)
+    → items_have_float (items_of (shown_data style symbol frames)) ≡ false
+shown_have_none style None [] = refl
+shown_have_none style (Some name) [] = refl
+shown_have_none style symbol (f ∷ rest) = frames_have_none style symbol (f ∷ rest)
+
 pub has_no_float : (style : Style) (probe : Option ℕ) (symbol : Option (List ℕ)) (frames : Loading (List FrameRecord)) → has_float (answer_data style probe symbol frames) ≡ false
-has_no_float style None symbol (Ok frames) = ap (λ b. b || false) (frames_have_none style symbol frames)
-has_no_float style (Some n) symbol (Ok frames) = ap (λ b. b || false) (frames_have_none style symbol frames)
+has_no_float style None symbol (Ok frames) = ap (λ b. b || false) (shown_have_none style symbol frames)
+has_no_float style (Some n) symbol (Ok frames) = ap (λ b. b || false) (shown_have_none style symbol frames)
 has_no_float style None symbol (Err e) = refl
 has_no_float style (Some n) symbol (Err e) = refl
 

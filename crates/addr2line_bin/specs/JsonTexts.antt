@@ -2,18 +2,20 @@
 -- Own: the names of the members are those of llvm-symbolizer: `Address`, `Symbol` with an object for
 -- each frame, the innermost first, and in each `Column`, `FileName`, `FunctionName` and `Line`. An
 -- unknown text is empty, an unknown number 0. `SymName` is the name of the symbol at the address; it
--- is the last frame's `FunctionName` too, as in the other texts.
+-- is the last frame's `FunctionName` too, as in the other texts, and that of a frame without a
+-- location where there is no other.
 -- Own: all frames and the symbol are there, whatever other options say. Where a lookup has a fault,
--- `Error` has its `Message`, and there are no frames. A word that is no address has the address null.
+-- `Error` has its `Message`, and there are no frames. A word that is no address has the address
+-- null.
 use Rattle.std.specs.Prelude.{◌≡◌, ℕ, List, [], ◌∷◌, ◌++◌, Option, Some, None, Ok, Err, codes, option_map, option_and_then, unwrap_or}
-use Rattle.std.specs.Option.{option_or}
+use Rattle.std.specs.Option.{option_map_or, option_or}
 use Rattle.serde_json.specs.Data.{Data, null, number, unsigned, string, array, object, no_items, member, no_members}
 use Rattle.serde_json.specs.View.{items_of}
 use Rattle.serde_json.specs.Written.{compact_text}
 use Rattle.elf.specs.Text.{loader_text_of}
 use Rattle.addr2line_bin.specs.Common.{Loading, Location, FrameRecord}
 use Rattle.addr2line_bin.specs.declared.options.Style.{Style}
-use Rattle.addr2line_bin.specs.AddressTexts.{basename_of, hex_digits, shown_path}
+use Rattle.addr2line_bin.specs.AddressTexts.{hex_digits, shown_path}
 use Rattle.addr2line_bin.specs.FrameTexts.{function_name, symbol_before}
 
 -- a text that may be unknown
@@ -52,12 +54,22 @@ frames_data style symbol [] = []
 frames_data style symbol (f ∷ rest) =
     frame_data style (symbol_before symbol rest) f ∷ frames_data style symbol rest
 
+-- a frame of the symbol's name, if there is one
+abbrev pub symbol_data : Style → Option (List ℕ) → List Data
+symbol_data style symbol =
+    option_map_or (λ name. place_data style (Some name) None ∷ []) symbol []
+
+-- the frames, or where there is none that of the symbol
+abbrev pub shown_data : Style → Option (List ℕ) → List FrameRecord → List Data
+shown_data style symbol [] = symbol_data style symbol
+shown_data style symbol (f ∷ rest) = frames_data style symbol (f ∷ rest)
+
 -- an address with what its lookups gave
 abbrev pub answer_data : Style → Option ℕ → Option (List ℕ) → Loading (List FrameRecord) → Data
 answer_data style probe symbol (Ok frames) = object
     (member (codes "Address") (address_data probe)
     (member (codes "SymName") (text_data symbol)
-    (member (codes "Symbol") (array (items_of (frames_data style symbol frames))) no_members)))
+    (member (codes "Symbol") (array (items_of (shown_data style symbol frames))) no_members)))
 answer_data style probe symbol (Err e) = object
     (member (codes "Address") (address_data probe)
     (member (codes "Error")

@@ -10,7 +10,7 @@ ghost use Rattle.addr2line_units.specs.FramesLeft.{frames_left};
 ghost use Rattle.addr2line_units.specs.FramesLent.{as_frame};
 ghost use Rattle.addr2line_bin.specs.FrameTexts.{next_and};
 ghost use Rattle.addr2line_bin.specs.JsonTexts.{address_data, answer_data, file_of, frame_data};
-ghost use Rattle.addr2line_bin.specs.JsonTexts.{frames_data, json_line, place_data};
+ghost use Rattle.addr2line_bin.specs.JsonTexts.{frames_data, json_line, place_data, shown_data, symbol_data};
 
 use crate::address_text::{push_hex, shown_path};
 use crate::frame_text::{function_name, next_frame, symbol_before};
@@ -118,6 +118,39 @@ fn frame_values<'ctx, R: Reader>(
     Ok(values)
 }
 
+// A frame of the symbol's name, if there is one.
+fn symbol_values(
+    alloc: Global,
+    style: Style,
+    symbol: Option<&str>,
+) -> Result<Vec<Value>, AllocError>
+    ensures gives { IfOk result (λ values. map view values.items
+        ≡ symbol_data style (option_copied symbol.entry)) }
+{
+    let mut values = Vec::new(alloc);
+    if let Some(name) = symbol {
+        values.push(place_value(alloc, style, name, None)?)?;
+    }
+    Ok(values)
+}
+
+// The frames, or where there is none that of the symbol.
+fn shown_values<R: Reader>(
+    alloc: Global,
+    style: Style,
+    symbol: Option<&str>,
+    frames: FrameIter<'_, R>,
+) -> Result<Vec<Value>, AllocError>
+    ensures gives { IfOk result (λ values. map view values.items
+        ≡ shown_data style (option_copied symbol.entry) (frames_left frames.entry)) }
+{
+    let mut frames = frames;
+    match next_frame(&mut frames) {
+        Some(first) => frame_values(alloc, style, symbol, Some(first), frames),
+        None => symbol_values(alloc, style, symbol),
+    }
+}
+
 // An address with its frames and the name of its symbol.
 fn found_value<R: Reader>(
     alloc: Global,
@@ -129,9 +162,7 @@ fn found_value<R: Reader>(
     ensures gives { IfOk result (λ v. view v ≡ answer_data style probe
         (option_copied symbol.entry) (Ok (frames_left frames.entry))) }
 {
-    let mut frames = frames;
-    let first = next_frame(&mut frames);
-    let frames = frame_values(alloc, style, symbol, first, frames)?;
+    let frames = shown_values(alloc, style, symbol, frames)?;
     let address = address_value(alloc, probe)?;
     let name = symbol.unwrap_or("");
     let frames = Value::Array(frames);

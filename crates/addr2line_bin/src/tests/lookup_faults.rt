@@ -200,6 +200,65 @@ fn each_fault_of_a_lookup_has_its_line(rt: HostRuntime) -> Result<(), Fail> {
     Ok(())
 }
 
+#[test]
+fn each_fault_of_a_lookup_has_an_object(rt: HostRuntime) -> Result<(), Fail> {
+    let cases: [Case; 3] = [
+        (
+            cut(),
+            &["--output-style=JSON", "0x2A", "10"],
+            "{\"Address\":\"0x2a\",\"Error\":{\"Message\":\"unexpected end of data\"},\
+\"SymName\":\"\",\"Symbol\":[]}\n\
+{\"Address\":\"0x10\",\"Error\":{\"Message\":\"unexpected end of data\"},\
+\"SymName\":\"\",\"Symbol\":[]}\n",
+            "a2l: failed to find frames for 0x2a: unexpected end of data\n\
+            a2l: failed to find frames for 0x10: unexpected end of data\n",
+            Exit::Done,
+        ),
+        (
+            (Err(LoaderError::PathNotUtf8), Some("s")),
+            &["--output-style=JSON", "-a", "10"],
+            "{\"Address\":\"0x10\",\"Error\":{\"Message\":\"path is not UTF-8\"},\
+\"SymName\":\"s\",\"Symbol\":[]}\n",
+            "a2l: failed to find frames for 0x10: path is not UTF-8\n",
+            Exit::Done,
+        ),
+        (
+            (Err(LoaderError::OutOfMemory), None),
+            &["--output-style=JSON", "10"],
+            "{\"Address\":\"0x10\",\"Error\":{\"Message\":\"out of memory\"},\
+\"SymName\":\"\",\"Symbol\":[]}\n",
+            "a2l: failed to find frames for 0x10: out of memory\n",
+            Exit::Done,
+        ),
+    ];
+    assert_eq!(rt; first_wrong(rt.alloc(), cases.as_slice())?, 3);
+    Ok(())
+}
+
+#[test]
+fn objects_have_a_symbol_and_escapes(rt: HostRuntime) -> Result<(), Fail> {
+    let cases: [Case; 2] = [
+        (
+            (Ok(None), Some("_ZN4test1a2bcE")),
+            &["--output-style=JSON", "-C", "ffffffffffffffff"],
+            "{\"Address\":\"0xffffffffffffffff\",\"SymName\":\"test::a::bc\",\"Symbol\":[\
+{\"Column\":0,\"FileName\":\"\",\"FunctionName\":\"test::a::bc\",\"Line\":0}]}\n",
+            "",
+            Exit::Done,
+        ),
+        (
+            line_7("/a\"b\\c\u{1}\u{fffd}", 3),
+            &["--output-style=JSON", "10"],
+            "{\"Address\":\"0x10\",\"SymName\":\"\",\"Symbol\":[{\"Column\":3,\
+\"FileName\":\"/a\\\"b\\\\c\\u0001\u{fffd}\",\"FunctionName\":\"\",\"Line\":7}]}\n",
+            "",
+            Exit::Done,
+        ),
+    ];
+    assert_eq!(rt; first_wrong(rt.alloc(), cases.as_slice())?, 2);
+    Ok(())
+}
+
 // Whether a run that can't load its file only tells this.
 fn is_told(alloc: Global, fault: LoaderError, line: &str) -> Result<bool, Fail> {
     let mut streams = Streams::sound(alloc);

@@ -1,8 +1,8 @@
 -- What the words of the command line ask for, by the matches of the command that takes them.
 -- Own: `-e` has a value; `--all` stands beside no address word; where neither `--all` nor an
 -- address word stands, the lines of standard input are asked for.
--- Own: a style is asked for by its name, or LLVM's by `--llvm`; one of names stands after `=`. How
--- deep names are read is fixed, so the options with which other programs set it are refused.
+-- Own: a style is asked for by its name, or LLVM's by `--llvm`; a style of names stands after `=`.
+-- How deep names are read is fixed, so the options with which other programs set it are refused.
 use Rattle.std.specs.Prelude.{◌≡◌, ◌≢◌, ◌⊎◌, Bool, true, false, ◌&&◌, ◌||◌, not, List, [], map}
 use Rattle.std.specs.Prelude.{Option, Some, None, Result, Ok, Err, if◌then◌else◌, is_ok, is_some, nat_eq, option_map, codes, string_bytes}
 use Rattle.std.specs.Option.{option_map_or}
@@ -34,7 +34,7 @@ use Rattle.addr2line_bin.specs.declared.options.Style.{Style}
 abbrev pub texts_in : List (String Global) → List Text
 texts_in = map string_bytes
 
--- a word, in whose place one stands that the command takes, where it names a style of names
+-- a word; in place of `--demangle=STYLE` the switch by which the command takes that style
 abbrev pub styled_word : Text → Text
 styled_word word = if bytes_eq word (codes "--demangle=none") then codes "--demangle-none"
     else (if bytes_eq word (codes "--demangle=rust") then codes "--demangle-rust"

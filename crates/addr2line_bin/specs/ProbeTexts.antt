@@ -1,7 +1,7 @@
 -- What goes to the two streams for an address that is asked for.
 -- Own: with a section an address below its size is an offset in it, and another is no address.
--- Own: a fault is written to standard error, and its address is printed as one without a location;
--- a refused growth within a lookup is such a fault.
+-- Own: a fault is written to standard error, and its address is printed as one without a location,
+-- or as an object of the fault; a refused growth within a lookup is such a fault.
 use Rattle.std.specs.Prelude.{◌≡◌, ◌-◌, ◌+◌, ℕ, Bool, true, false, ◌||◌, List, [], ◌++◌, Option, Some, None, Ok, Err, codes, nat_lt, option_and_then, option_map, string_bytes, if◌then◌else◌}
 use Rattle.gimli_read.specs.declared.range.Range.{Range}
 use Rattle.addr2line_bin.specs.Common.{Loading, Location, FrameRecord}

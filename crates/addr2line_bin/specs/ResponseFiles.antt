@@ -1,9 +1,10 @@
 -- Words that files have in place of words of the command line (response files).
--- Own: after word 0 a word `@PATH` stands for the words of the file at PATH, as GNU's and LLVM's
--- programs take it. Where no file of UTF-8 is there the word stays, and so do words of such a file,
--- whatever they begin with.
+-- Own: after word 0 a word `@PATH` stands for the words of the file at PATH, as for GNU's and LLVM's
+-- programs. Where no file of UTF-8 is there the word stays. A word that comes of a file stays,
+-- whatever it begins with.
 -- Own: white space parts the words of a file. Between two marks, single or double, it is part of a
--- word, and a backslash makes the next character part of a word, whatever it is.
+-- word, and a backslash makes the next character part of a word, whatever it is. The end of the file
+-- ends an open mark, and a backslash before it counts for nothing.
 use Rattle.std.specs.Prelude.{◌==◌, ◌||◌, ℕ, Bool, true, false, List, [], ◌∷◌, ◌++◌, Option, Some, None, codes, drop, encode_utf8, flat_map, fold, if◌then◌else◌, nat_eq, option_and_then}
 use Rattle.std.specs.List.{list_any, starts_with}
 use Rattle.std.specs.Option.{option_map_or}

@@ -49,7 +49,7 @@ pub enum Misuse {
     OutputStyle,
     /// A value of `--demangle` that is no style.
     NameStyle,
-    /// No value of `-e`.
+    /// No `-e`.
     NoFile,
     /// `--all` beside an address.
     AllAndAddresses,
@@ -302,7 +302,7 @@ fn styled_words<'a>(alloc: Global, words: &'a [String]) -> Result<Vec<&'a str>, 
 /// | Refused | When |
 /// |---|---|
 /// | `Clap` | the command doesn't take the words, or one asks for help or the version |
-/// | `Misuse` | it takes them, but they ask for nothing, as where `-e` has no value |
+/// | `Misuse` | it takes them, but they ask for nothing, as where no `-e` stands |
 /// | `OutOfMemory` | memory was refused, in place of any answer |
 ///
 /// Source: Own.

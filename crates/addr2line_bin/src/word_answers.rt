@@ -34,7 +34,7 @@ fn misuse_reason(why: Misuse) -> &'static str
         }
         Misuse::OutputStyle => ": --output-style is GNU, LLVM or JSON\n",
         Misuse::NameStyle => ": --demangle is rust, auto or none\n",
-        Misuse::NoFile => ": no file: -e names it, and a.out is not taken without\n",
+        Misuse::NoFile => ": no file: -e names it, and without -e a.out is not taken\n",
         Misuse::AllAndAddresses => ": --all stands beside no address\n",
     }
 }

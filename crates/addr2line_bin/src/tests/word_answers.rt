@@ -73,7 +73,7 @@ For more information, try '--help'.
 const VERSION_LINE: &str = "a2l 0.1.0, a port of addr2line 0.27.1\n";
 
 const NO_FILE: &str = "\
-a2l: no file: -e names it, and a.out is not taken without
+a2l: no file: -e names it, and without -e a.out is not taken
 a2l: usage: a2l -e FILE [OPTION].. [ADDR..]
 ";
 

@@ -2,7 +2,7 @@
 use Rattle.std.proofs.Common.{◌≡◌, ℕ, zero, suc, ◌+◌, ◌<◌, ◌&&◌, List, [], ◌∷◌, take, drop, true, refl, arith}
 use Rattle.std.specs.Char.{is_ascii}
 use Rattle.std.specs.List.{list_all, prefix_len}
-use Rattle.std.specs.Str.{IsAscii, IsUtf8, is_utf8}
+use Rattle.std.specs.Str.{IsAscii, IsNotAscii, IsUtf8, is_utf8}
 use Rattle.std.proofs.lemmas.Bool.Decides.{nat_tests}
 use Rattle.std.proofs.lemmas.Str.{IsUtf8-from_ascii, is_utf8-from_IsUtf8, IsUtf8-from_is_utf8}
 use Rattle.std.proofs.lemmas.Str.Ascii.{IsAscii-nil, IsAscii-cons}
@@ -23,6 +23,20 @@ all_ascii (b ∷ bs) h = IsAscii-cons b bs (first_ascii b bs h) (all_ascii bs (o
 
 pub ascii_text : (bs : List ℕ) → list_all is_ascii bs ≡ true → IsUtf8 bs
 ascii_text bs h = IsUtf8-from_ascii bs (all_ascii bs h)
+
+pub listed_ascii : (bs : List ℕ) → IsAscii bs → list_all is_ascii bs ≡ true
+listed_ascii [] h = refl
+listed_ascii (b ∷ bs) h =
+    let first : b < 128 = h 0 in
+    let rest : list_all is_ascii bs ≡ true = listed_ascii bs (λ i. h (suc i)) in
+    grind (arith, nat_tests)
+
+pub not_listed_ascii : (bs : List ℕ) → IsNotAscii bs → list_all is_ascii bs ≡ false
+not_listed_ascii [] h = absurd (omega (arith, h.1))
+not_listed_ascii (b ∷ bs) (zero, h) = grind (arith, nat_tests)
+not_listed_ascii (b ∷ bs) (suc i, h) =
+    let rest : list_all is_ascii bs ≡ false = not_listed_ascii bs (i, h) in
+    grind (arith, nat_tests)
 
 take_ascii : (n : ℕ) (bs : List ℕ) → list_all is_ascii bs ≡ true → list_all is_ascii (take n bs) ≡ true
 take_ascii zero bs h = refl

@@ -1,8 +1,10 @@
 -- Marks of LLVM in a name.
 use Rattle.std.proofs.Common.{◌≡◌, ◌∙◌, ◌≤◌, ◌<◌, ◌+◌, ℕ, zero, suc, true, false, List, [], ◌∷◌, ◌++◌, take, drop, length, ap, sym, refl, arith, add-one, take-append-drop}
 use Rattle.std.proofs.Math.ListN.{drop_of_length-le}
-use Rattle.std.specs.Prelude.{nat_eq, if◌then◌else◌}
+use Rattle.std.proofs.lemmas.Bool.{eq-eqb, ne_eqb}
+use Rattle.std.specs.Prelude.{◌&&◌, nat_eq, if◌then◌else◌}
 use Rattle.std.specs.List.{list_all, starts_with}
+use Rattle.memchr.specs.Find.{Nowhere, Passes, is_byte}
 use Rattle.rust_v0.specs.Name.{llvm_mark, is_llvm_byte, without_llvm}
 
 -- no mark at a place
@@ -27,3 +29,12 @@ pub whole_name : (name : List ℕ) (at : ℕ) → length name ≤ at → take at
 whole_name name at past e =
     let none : drop at name ≡ [] = drop_of_length-le name past in
     sym (take-append-drop at name) ∙ ap (λ rest. take at name ++ rest) none ∙ ap (λ rest. take at name ++ without_llvm rest) (sym none) ∙ e
+
+-- a name without a dot has no mark
+pub no_mark : (name : List ℕ) → Nowhere (Passes (is_byte 46) name) 0 (length name) → name ≡ without_llvm name
+no_mark [] none = refl
+no_mark (b ∷ bs) none =
+    let other : nat_eq 46 b ≡ false = ne_eqb 46 b (λ e. none 0 (omega arith) (omega arith) (eq-eqb b 46 (sym e))) in
+    let apart : starts_with nat_eq (b ∷ bs) llvm_mark ≡ false = ap (λ q. q && starts_with nat_eq bs (drop 1 llvm_mark)) other in
+    ap (λ rest. b ∷ rest) (no_mark bs (λ k from below. none (suc k) (omega arith) (omega (arith, below))))
+    ∙ sym (ap (λ q. if q then (if list_all is_llvm_byte (drop (length llvm_mark) (b ∷ bs)) then [] else b ∷ bs) else b ∷ without_llvm bs) apart)

@@ -41,10 +41,11 @@ fn length_digits(bytes: &[u8]) -> usize
 }
 
 /// Whether only ASCII stands there.
+#[tactic(auto, using(crate::proofs::AsciiLemmas::listed_ascii, crate::proofs::AsciiLemmas::not_listed_ascii))]
 pub(crate) fn is_ascii_text(bytes: &[u8]) -> bool
     ensures { result ≡ list_all is_ascii bytes.now }
 {
-    bytes.iter().all(|b| b.is_ascii())
+    bytes.is_ascii()
 }
 
 /// So many bytes, all of them ASCII, and what follows them.

@@ -10,6 +10,7 @@ use crate::grammar::Production;
 use crate::identifiers::is_ascii_text;
 use crate::printer::{Mode, Printer};
 use crate::stop::Stop;
+use memchr::memchr;
 use std::alloc::{AllocError, Global};
 
 /// The most levels.
@@ -21,6 +22,9 @@ const PRODUCTIONS: u32 = 65_536;
 /// The most bytes of text.
 const ROOM: usize = 1_000_000;
 
+/// The most bytes for which there is room at first: most texts are no longer than their names.
+const FIRST_ROOM: usize = 256;
+
 /// Whether all that follows a mark of LLVM is its own.
 fn is_llvm_text(bytes: &[u8]) -> bool
     ensures { result ≡ list_all is_llvm_byte bytes.now }
@@ -31,10 +35,14 @@ fn is_llvm_text(bytes: &[u8]) -> bool
 }
 
 /// The name up to the first mark of LLVM, where only such bytes follow it.
-#[tactic(auto, using(crate::proofs::LlvmLemmas::mark_more, crate::proofs::LlvmLemmas::mark_found))]
+#[tactic(auto, using(crate::proofs::LlvmLemmas::mark_more, crate::proofs::LlvmLemmas::mark_found, crate::proofs::LlvmLemmas::no_mark))]
 fn strip_llvm(name: &[u8]) -> &[u8]
     ensures { result.now ≡ without_llvm name.now }
 {
+    // Nearly no name has a dot.
+    if memchr(b'.', name).is_none() {
+        return name;
+    }
     for at in 0..name.len() {
         let (front, back) = name.split_at(at);
         let mark = b".llvm.";
@@ -158,6 +166,7 @@ impl<'a> Printer<'a> {
 fn demangle_spelled(alloc: Global, spelled: &[u8]) -> Result<Option<String>, AllocError>
     ensures { IfOk result (λ found. option_map string_bytes found ≡ spelled_text spelled.now) }
 {
+    let text = String::with_capacity(alloc, spelled.len().min(FIRST_ROOM))?;
     let mut printer = Printer {
         name: spelled,
         rest: spelled,
@@ -166,7 +175,7 @@ fn demangle_spelled(alloc: Global, spelled: &[u8]) -> Result<Option<String>, All
         bound: 0,
         is_open: false,
         mode: Mode::Written,
-        text: String::new(alloc),
+        text,
         alloc,
     };
     match printer.paths() {

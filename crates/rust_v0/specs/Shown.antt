@@ -49,10 +49,10 @@ say_escaped quote c s =
     if c == byte "'" || c == byte "\"" then say_quote quote c s
     else (if c == byte "\\" then say (codes "\\\\") s
     else (if c == 0 then say (codes "\\0") s
-    else (if c == 9 then say (codes "\\t") s
-    else (if c == 10 then say (codes "\\n") s
-    else (if c == 13 then say (codes "\\r") s
-    else (if is_in_range 32 126 c then say_char c s
+    else (if c == byte "\t" then say (codes "\\t") s
+    else (if c == byte "\n" then say (codes "\\n") s
+    else (if c == byte "\r" then say (codes "\\r") s
+    else (if is_in_range (byte " ") (byte "~") c then say_char c s
     else say_chars (escape_unicode c) s))))))
 
 -- characters as they stand in a string

@@ -2,7 +2,7 @@
 -- Source: Rust RFC 2603; RFC 3492 (Punycode).
 -- Own: Punycode that is invalid, of more than 1,024 bytes or of more than 128 characters is shown as
 -- it stands.
-use Rattle.std.specs.Prelude.{ℕ, ◌==◌, ◌&&◌, ◌||◌, Bool, true, false, List, [], ◌∷◌, ◌++◌, length, take, drop, nat_le, if◌then◌else◌, Option, Some, None, is_some, option_and_then, unwrap_or, codes}
+use Rattle.std.specs.Prelude.{ℕ, ◌==◌, ◌&&◌, ◌||◌, Bool, true, false, List, ◌++◌, length, take, drop, nat_le, if◌then◌else◌, Option, Some, None, is_some, option_and_then, unwrap_or, codes}
 use Rattle.std.specs.Char.{is_ascii, is_ascii_digit, is_ascii_lowercase}
 use Rattle.std.specs.List.{list_all, prefix_len, before_last, after_last}
 use Rattle.std.specs.Str.{byte}
@@ -77,7 +77,8 @@ most_characters = 128
 
 -- characters, if they are few enough
 abbrev pub if_few : Option (List ℕ) → Option (List ℕ)
-if_few found = option_and_then (λ cs. if nat_le (length cs) most_characters then Some cs else None) found
+if_few found =
+    option_and_then (λ cs. if nat_le (length cs) most_characters then Some cs else None) found
 
 -- the characters that Punycode is shown as
 unfoldable pub decoded : List ℕ → Option (List ℕ)

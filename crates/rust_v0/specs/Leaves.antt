@@ -1,6 +1,6 @@
 -- What has no production inside: names, lifetimes, literals, what stands before a function.
 -- Source: Rust RFC 2603. Own: at most 2^64 - 1 lifetimes are bound.
-use Rattle.std.specs.Prelude.{ℕ, zero, suc, ◌+◌, ◌-◌, ◌*◌, ◌^◌, ◌%◌, ◌==◌, ◌||◌, Bool, true, false, List, [], ◌∷◌, length, map, chars, nat_lt, if◌then◌else◌, Option, Some, None, option_map, option_and_then, codes}
+use Rattle.std.specs.Prelude.{ℕ, zero, suc, ◌+◌, ◌-◌, ◌*◌, ◌^◌, ◌%◌, ◌==◌, ◌||◌, Bool, true, List, [], ◌∷◌, length, map, chars, nat_lt, if◌then◌else◌, Option, Some, None, option_map, codes}
 use Rattle.std.specs.Char.{is_ascii_digit, is_ascii_alphabetic, is_ascii_uppercase}
 use Rattle.std.specs.Int.{is_in_range}
 use Rattle.std.specs.Str.{byte, is_utf8}
@@ -202,7 +202,8 @@ sign s = if_next (byte "n") (say (codes "-")) nothing s
 
 -- a number of at most 64 bits, and the state after it
 abbrev pub as_literal : List ℕ × State → Option (ℕ × State)
-as_literal p = if nat_lt (value_in hex_base p.0) (2 ^ 64) then Some (value_in hex_base p.0, p.1) else None
+as_literal p =
+    if nat_lt (value_in hex_base p.0) (2 ^ 64) then Some (value_in hex_base p.0, p.1) else None
 
 -- the number of a literal
 unfoldable pub literal : State → Option (ℕ × State)

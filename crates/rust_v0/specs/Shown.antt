@@ -1,11 +1,11 @@
 -- Texts that are shown: characters, numbers, identifiers, what stands between quotes.
 -- Source: Rust RFC 2603. Own: which characters stand as escapes between quotes.
-use Rattle.std.specs.Prelude.{ℕ, ◌==◌, ◌||◌, Bool, true, false, List, [], ◌∷◌, if◌then◌else◌, Option, Some, None, codes, decimal, encode_utf8}
+use Rattle.std.specs.Prelude.{ℕ, ◌==◌, ◌||◌, Bool, List, [], ◌∷◌, if◌then◌else◌, Option, Some, None, codes, decimal, encode_utf8}
 use Rattle.std.specs.Int.{is_in_range}
 use Rattle.std.specs.Char.Escape.{escape_unicode}
 use Rattle.std.specs.Str.{byte}
 use Rattle.rust_v0.specs.Identifiers.{decoded, hyphenated}
-use Rattle.rust_v0.specs.State.{State, Reading, say, is_hidden, ◌>>=◌}
+use Rattle.rust_v0.specs.State.{Reading, say, is_hidden, ◌>>=◌}
 
 -- a character
 abbrev pub say_char : ℕ → Reading

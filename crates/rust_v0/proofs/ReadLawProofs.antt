@@ -1,0 +1,94 @@
+-- Readings go on, and keep to the limits.
+use Rattle.std.proofs.Common.{◌≡◌, ◌∙◌, ◌≤◌, ◌<◌, ◌+◌, ◌-◌, ℕ, zero, suc, true, false, List, drop, length, ap, refl, subst, sym, arith}
+use Rattle.std.specs.Prelude.{◌==◌, if◌then◌else◌, Option, Some, None, option_and_then, IfSome}
+use Rattle.rust_v0.specs.declared.grammar.Production.{Production}
+use Rattle.rust_v0.specs.declared.grammar.Production.TheVariants.{ValuePath}
+use Rattle.rust_v0.specs.declared.printer.Mode.TheVariants.{Written}
+use Rattle.rust_v0.specs.State.{State}
+use Rattle.rust_v0.specs.Reads.{reads}
+use Rattle.rust_v0.specs.Name.{instantiating, is_upper_first, most_levels, paths, start}
+use Rattle.rust_v0.specs.ReadLaws.{IsProperEnd, KeepsCount, NameReadOnce, NameWithinLimits, ReadsOn, ReadsOnce, StopsAtLimits, has_reference}
+use Rattle.rust_v0.proofs.StateLemmas.{Goes, Passed, Rest, if_goes, passed_then}
+use Rattle.rust_v0.proofs.LeafLemmas.{same_leaf}
+use Rattle.rust_v0.proofs.PartLemmas.{weight}
+use Rattle.rust_v0.proofs.OnwardLemmas.{Produced, Produces, goes_less, hidden_goes, passed_less, reads_go, reads_produce}
+
+-- what a reading gave
+pub at_some : {A : Type 0} (P : A → Type 0) (o : Option A) (a : A) → IfSome o P → o ≡ Some a → P a
+at_some P o a h e = subst (λ x. IfSome x P) e h
+
+produced_at : (levels : ℕ) (production : Production) (s r : State) → reads levels production s ≡ Some r → Produced (weight production) s r
+produced_at levels production s r e = at_some (Produced (weight production) s) _ r (reads_produce levels production s).passed e
+
+end_from : (rest bytes : List ℕ) → Rest 1 bytes rest → IsProperEnd rest bytes
+end_from rest bytes h =
+    let sized : length rest + h.past ≡ length bytes = h.sized in
+    let least : 1 ≤ h.past = h.least in
+    let past : length bytes - length rest ≡ h.past = omega (arith, sized) in
+    record { fewer = omega (arith, sized, least); end = h.ends ∙ ap (λ n. drop n bytes) (sym past) }
+
+pub reads_on : ReadsOn
+reads_on levels production s r e = end_from r.bytes s.bytes (produced_at levels production s r e).onward
+
+once_from : (k : ℕ) (s r : State) → Passed true k s r → has_reference s.bytes ≡ false → s.left - r.left ≤ length s.bytes - length r.bytes
+once_from k s r h none =
+    let cost : length r.bytes + s.left + k ≤ length s.bytes + r.left = h.cost refl none in
+    let left : r.left ≤ s.left = h.left in
+    let sized : length r.bytes + h.rest.past ≡ length s.bytes = h.rest.sized in
+    omega (arith, cost, left, sized)
+
+pub reads_once : ReadsOnce
+reads_once levels production s r e none = once_from (weight production) s r (produced_at levels production s r e).passed none
+
+-- ---- names
+
+instantiating_goes : (s : State) → Goes true 0 s (instantiating s)
+unfolding instantiating
+instantiating_goes s = if_goes true 0 s (is_upper_first s.bytes) _ _ (goes_less true 1 0 s _ (omega arith) (hidden_goes (reads most_levels) (reads_go most_levels) s)) (same_leaf s)
+
+pub record Pathed (s r : State) : Type 0 where
+  pub passed : Passed true 0 s r
+  pub fewer : r.left < s.left
+
+pathed_then : (k : ℕ) (s r : State) (o : Option State) → Produced k s r → Goes true 0 r o → IfSome o (Pathed s)
+pathed_then k s r None h g = tt
+pathed_then k s r (Some t) h g = record {
+  passed = passed_then true true 0 0 s r t (passed_less true k 0 s r (omega arith) h.passed) g.passed;
+  fewer = let x : r.left < s.left = h.counted in let y : t.left ≤ r.left = g.passed.left in omega (arith, x, y);
+}
+
+pathed_from : (k : ℕ) (s : State) (o : Option State) → Produces k s o → IfSome (option_and_then instantiating o) (Pathed s)
+pathed_from k s None h = tt
+pathed_from k s (Some r) h = pathed_then k s r (instantiating r) h.passed (instantiating_goes r)
+
+pub paths_pass : (s : State) → IfSome (paths s) (Pathed s)
+unfolding paths
+paths_pass s = pathed_from 1 s (reads most_levels ValuePath s) (reads_produce most_levels ValuePath s)
+
+pub pathed_at : (spelled : List ℕ) (r : State) → paths (start Written spelled) ≡ Some r → Pathed (start Written spelled) r
+pathed_at spelled r e = at_some (Pathed (start Written spelled)) _ r (paths_pass (start Written spelled)) e
+
+pub name_read_once : NameReadOnce
+name_read_once spelled r e none = once_from 0 (start Written spelled) r (pathed_at spelled r e).passed none
+
+-- ---- limits
+
+none_at_zero : (left : ℕ) (s : State) (f : State → Option State) → left ≡ 0 → option_and_then f (if left == 0 then None else Some (record s { left = left - 1 })) ≡ None
+none_at_zero zero s f e = refl
+none_at_zero (suc left) s f e = absurd (omega (arith, e))
+
+stops : (production : Production) (s : State) (levels : ℕ) → s.left ≡ 0 → reads levels production s ≡ None
+unfolding reads
+stops production s zero e = refl
+stops production s (suc levels) e = none_at_zero s.left s _ e
+
+pub reads_stop : StopsAtLimits
+unfolding reads
+reads_stop production s = (refl, stops production s)
+
+pub reads_count : KeepsCount
+reads_count levels production s r e =
+    let h : Produced (weight production) s r = produced_at levels production s r e in (h.counted, h.passed.total)
+
+pub name_within_limits : NameWithinLimits
+name_within_limits spelled r e = let h : Pathed (start Written spelled) r = pathed_at spelled r e in (h.fewer, h.passed.total ∙ omega arith)

@@ -27,13 +27,13 @@ pub none_leaf : (s : State) → Goes true 0 s None
 none_leaf s = none_goes true 0 s
 
 pub same_leaf : (s : State) → Goes true 0 s (Some s)
-same_leaf s = some_goes true 0 s s (passed_same s s refl refl refl refl refl)
+same_leaf s = some_goes true 0 s s (passed_same s s refl refl refl refl refl refl)
 
 pub bound_leaf : (s : State) (n : ℕ) → Goes true 0 s (Some (record s { bound = n }))
-bound_leaf s n = some_goes true 0 s _ (passed_same s _ refl refl refl refl refl)
+bound_leaf s n = some_goes true 0 s _ (passed_same s _ refl refl refl refl refl refl)
 
 pub open_leaf : (s : State) (b : Bool) → Goes true 0 s (Some (record s { is_open = b }))
-open_leaf s b = some_goes true 0 s _ (passed_same s _ refl refl refl refl refl)
+open_leaf s b = some_goes true 0 s _ (passed_same s _ refl refl refl refl refl refl)
 
 -- ---- bytes of a state
 
@@ -175,7 +175,7 @@ with_with s None f h g = record { passed = tt }
 with_with s (Some p) f h g = with_more s p.1 (f p) h.passed (g p)
 
 literal_as : (p : List ℕ × State) (q : Bool) (n : ℕ) → GoesWith true 0 p.1 (if q then Some (n, p.1) else None)
-literal_as p true n = record { passed = passed_same p.1 p.1 refl refl refl refl refl }
+literal_as p true n = record { passed = passed_same p.1 p.1 refl refl refl refl refl refl }
 literal_as p false n = record { passed = tt }
 
 literal_leaf : (s : State) → GoesWith true 0 s (literal s)
@@ -188,7 +188,7 @@ boolean_leaf s = search (leaf_rules, literal_leaf) depth 24
 
 scalar_as : {A : Type 0} (s : State) (o : Option A) → GoesWith true 0 s (option_map (λ c. (c, s)) o)
 scalar_as s None = record { passed = tt }
-scalar_as s (Some c) = record { passed = passed_same s s refl refl refl refl refl }
+scalar_as s (Some c) = record { passed = passed_same s s refl refl refl refl refl refl }
 
 scalar_leaf : (s : State) → GoesWith true 0 s (scalar s)
 unfolding scalar

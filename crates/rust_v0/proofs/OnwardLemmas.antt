@@ -7,7 +7,6 @@ use Rattle.rust_v0.specs.declared.grammar.Production.{Production}
 use Rattle.rust_v0.specs.declared.grammar.Production.TheVariants.{TypePath, TraitPath, AnyType, BracedConstant, BareConstant, Pattern}
 use Rattle.rust_v0.specs.declared.grammar.Item.{Item}
 use Rattle.rust_v0.specs.declared.grammar.Item.TheVariants.{Argument, TypeItem, ConstantItem, Field, Trait, PatternItem}
-use Rattle.rust_v0.specs.declared.printer.Mode.{Mode}
 use Rattle.rust_v0.specs.declared.printer.Mode.TheVariants.{Hidden}
 use Rattle.rust_v0.specs.Numbers.{after, number_62}
 use Rattle.rust_v0.specs.State.{State, Reading, say, is_hidden, taken, ◌>>=◌}
@@ -26,6 +25,8 @@ InnerGoes inner = (production : Production) (s : State) → Goes true (weight pr
 pub passed_less : (b : Bool) (k m : ℕ) (s r : State) → m ≤ k → Passed b k s r → Passed b m s r
 passed_less b k m s r le h = record {
   total = h.total;
+  mode = h.mode;
+  unshown = h.unshown;
   name = h.name;
   left = h.left;
   rest = rest_less k m s.bytes r.bytes le h.rest;
@@ -50,13 +51,33 @@ then_with s (Some r) f h g = from_with s r (f r) h.passed (g r)
 
 -- ---- paths that aren't shown, places, references
 
-mode_goes : (k : ℕ) (s : State) (m n : Mode) (o : Option State) → Goes true k (with_mode m s) o → Goes true k s (option_map (with_mode n) o)
-mode_goes k s m n None h = record { passed = tt }
-mode_goes k s m n (Some r) h = record { passed = record { total = h.passed.total; name = h.passed.name; left = h.passed.left; rest = h.passed.rest; cost = h.passed.cost } }
+hidden_passed : (k : ℕ) (s r : State) → Passed true k (with_mode Hidden s) r → Passed true k s (with_mode s.mode r)
+hidden_passed k s r h = record {
+  total = h.total;
+  name = h.name;
+  mode = refl;
+  unshown = λ e. h.unshown refl;
+  left = h.left;
+  rest = h.rest;
+  cost = h.cost;
+}
+
+mode_goes : (k : ℕ) (s : State) (o : Option State) → Goes true k (with_mode Hidden s) o → Goes true k s (option_map (with_mode s.mode) o)
+mode_goes k s None h = record { passed = tt }
+mode_goes k s (Some r) h = record { passed = hidden_passed k s r h.passed }
 
 pub hidden_goes : (inner : Inner) → InnerGoes inner → (s : State) → Goes true 1 s (hidden inner s)
 unfolding hidden
-hidden_goes inner h s = mode_goes 1 s Hidden s.mode _ (h TypePath (with_mode Hidden s))
+hidden_goes inner h s = mode_goes 1 s _ (h TypePath (with_mode Hidden s))
+
+-- a path that isn't shown adds no text
+mode_adds : (k : ℕ) (s : State) (o : Option State) → Goes true k (with_mode Hidden s) o → IfSome (option_map (with_mode s.mode) o) (λ r. r.text ≡ s.text)
+mode_adds k s None h = tt
+mode_adds k s (Some r) h = h.passed.unshown refl
+
+pub hidden_adds : (inner : Inner) → InnerGoes inner → (s : State) → IfSome (hidden inner s) (λ r. r.text ≡ s.text)
+unfolding hidden
+hidden_adds inner h s = mode_adds 1 s (inner TypePath (with_mode Hidden s)) (h TypePath (with_mode Hidden s))
 
 place_goes : (inner : Inner) → InnerGoes inner → (s : State) → Goes true 1 s (impl_place inner s)
 unfolding impl_place
@@ -70,18 +91,18 @@ nested_goes inner h path s =
     then_goes true true (weight path) 0 space.1 _ _ (h path space.1) (λ around. segment_leaf space.0 around)))
 
 away_passed : (k : ℕ) (s r : State) (bytes : List ℕ) → Passed true k (with_bytes bytes s) r → Passed false 0 s (with_bytes s.bytes r)
-away_passed k s r bytes h = record { total = h.total; name = h.name; left = h.left; rest = rest_all s.bytes; cost = λ e none. absurd (let no : false ≡ true = e in cc) }
+away_passed k s r bytes h = record { total = h.total; name = h.name; mode = h.mode; unshown = h.unshown; left = h.left; rest = rest_all s.bytes; cost = λ e none. absurd (let no : false ≡ true = e in cc) }
 
 away_goes : (k : ℕ) (s : State) (bytes : List ℕ) (o : Option State) → Goes true k (with_bytes bytes s) o → Goes false 0 s (option_map (with_bytes s.bytes) o)
 away_goes k s bytes None h = record { passed = tt }
 away_goes k s bytes (Some r) h = record { passed = away_passed k s r bytes h.passed }
 
 uncounted_passed : (k : ℕ) (s r : State) → Passed true k s r → Passed false k s r
-uncounted_passed k s r h = record { total = h.total; name = h.name; left = h.left; rest = h.rest; cost = λ e none. h.cost refl none }
+uncounted_passed k s r h = record { total = h.total; mode = h.mode; unshown = h.unshown; name = h.name; left = h.left; rest = h.rest; cost = λ e none. h.cost refl none }
 
 target_goes : (q : Bool) (inner : Inner) → InnerGoes inner → (production : Production) (bytes : List ℕ) (r : State)
     → Goes false 0 r (if q then Some r else option_map (with_bytes r.bytes) (inner production (with_bytes bytes r)))
-target_goes true inner h production bytes r = some_goes false 0 r r (uncounted_passed 0 r r (passed_same r r refl refl refl refl refl))
+target_goes true inner h production bytes r = some_goes false 0 r r (uncounted_passed 0 r r (passed_same r r refl refl refl refl refl refl))
 target_goes false inner h production bytes r = away_goes (weight production) r bytes _ (h production (with_bytes bytes r))
 
 target_if : (q p : Bool) (inner : Inner) → InnerGoes inner → (production : Production) (bytes : List ℕ) (r : State)
@@ -121,13 +142,13 @@ binding_name_leaf s = search leaf_rules depth 20
 
 on_leaf : (is_bound : Bool) (s : State) (o : Option (List ℕ)) (next : State → Option (Bool × State)) → Follows 1 s.bytes o
     → ((r : State) → GoesWith true 0 r (next r)) → GoesWith true 0 s (bindings_on is_bound s o next)
-on_leaf is_bound s None next f h = record { passed = passed_same s s refl refl refl refl refl }
+on_leaf is_bound s None next f h = record { passed = passed_same s s refl refl refl refl refl refl }
 on_leaf is_bound s (Some rest) next f h =
     from_with s (record s { bytes = rest }) _ (passed_bytes 0 s rest (rest_less 1 0 s.bytes rest (omega arith) f.passed)) (h (record s { bytes = rest }))
 
 bindings_leaf : (inner : Inner) → InnerGoes inner → (is_after is_bound : Bool) (turns : ℕ) (s : State) → GoesWith true 0 s (bindings inner is_after is_bound turns s)
 unfolding bindings
-bindings_leaf inner h is_after is_bound zero s = record { passed = passed_same s s refl refl refl refl refl }
+bindings_leaf inner h is_after is_bound zero s = record { passed = passed_same s s refl refl refl refl refl refl }
 bindings_leaf inner h is_after is_bound (suc turns) s =
     on_leaf is_bound s (after (byte "p") s.bytes) _ (after_follows (byte "p") s.bytes) (λ r.
     then_with r _ _ (say_goes (before_binding is_after) r) (λ said.
@@ -139,10 +160,10 @@ close_leaf true s = say_goes (codes ">") s
 close_leaf false s = same_leaf s
 
 from_open : (q : Bool) (s : State) (o : Option State) → Goes true 0 (record s { is_open = q }) o → Goes true 0 s o
-from_open q s o h = from_goes true true 0 0 s (record s { is_open = q }) o (passed_same s _ refl refl refl refl refl) h
+from_open q s o h = from_goes true true 0 0 s (record s { is_open = q }) o (passed_same s _ refl refl refl refl refl refl) h
 
 from_open_with : {A : Type 0} (q : Bool) (s : State) (o : Option (A × State)) → GoesWith true 0 (record s { is_open = q }) o → GoesWith true 0 s o
-from_open_with q s o h = from_with s (record s { is_open = q }) o (passed_same s _ refl refl refl refl refl) h
+from_open_with q s o h = from_with s (record s { is_open = q }) o (passed_same s _ refl refl refl refl refl refl) h
 
 trait_leaf : (inner : Inner) → InnerGoes inner → (s : State) → Goes true 0 s (bounded_trait inner s)
 unfolding bounded_trait
@@ -174,7 +195,7 @@ items_leaf inner h item between alone s =
     next_leaf (byte "E") r (say alone) (more_from inner item between) (λ t. say_goes alone t) (more_leaf inner h item between (length r.bytes) r)))
 
 bound_again : (s : State) (n : ℕ) → Goes true 0 s (Some (record s { bound = n }))
-bound_again s n = some_goes true 0 s _ (passed_same s _ refl refl refl refl refl)
+bound_again s n = some_goes true 0 s _ (passed_same s _ refl refl refl refl refl refl)
 
 traits_leaf : (inner : Inner) → InnerGoes inner → (s : State) → Goes true 0 s (bound_traits inner s)
 unfolding bound_traits
@@ -231,6 +252,8 @@ produced k s t parts rest pos front h =
     record {
       passed = record {
         total = h.total;
+        mode = h.mode;
+        unshown = h.unshown;
         name = h.name;
         left = omega (arith, down);
         rest = rest_less (front.tags + parts_weight parts) k s.bytes t.bytes (omega (arith, enough)) whole;

@@ -61,6 +61,8 @@ none_in_rest k bytes rest h none = ap has_reference h.ends ∙ none_after h.past
 pub record Passed (b : Bool) (k : ℕ) (s r : State) : Type 0 where
   pub total : length r.text + r.room ≡ length s.text + s.room
   pub name : r.name ≡ s.name
+  pub mode : r.mode ≡ s.mode
+  pub unshown : s.mode ≡ Hidden → r.text ≡ s.text
   pub left : r.left ≤ s.left
   pub rest : Rest k s.bytes r.bytes
   pub cost : b ≡ true → has_reference s.bytes ≡ false → length r.bytes + s.left + k ≤ length s.bytes + r.left
@@ -77,6 +79,8 @@ pub passed_then : (b c : Bool) (k m : ℕ) (s r t : State) → Passed b k s r �
 passed_then b c k m s r t h g = record {
   total = g.total ∙ h.total;
   name = g.name ∙ h.name;
+  mode = g.mode ∙ h.mode;
+  unshown = λ e. g.unshown (h.mode ∙ e) ∙ h.unshown e;
   left = let x : r.left ≤ s.left = h.left in let y : t.left ≤ r.left = g.left in omega (arith, x, y);
   rest = rest_then k m s.bytes r.bytes t.bytes h.rest g.rest;
   cost = λ e none.
@@ -89,6 +93,8 @@ passed_then b c k m s r t h g = record {
 pub passed_bytes : (k : ℕ) (s : State) (rest : List ℕ) → Rest k s.bytes rest → Passed true k s (record s { bytes = rest })
 passed_bytes k s rest h = record {
   total = refl;
+  mode = refl;
+  unshown = λ e. refl;
   name = refl;
   left = omega arith;
   rest = h;
@@ -96,8 +102,10 @@ passed_bytes k s rest h = record {
 }
 
 -- a state with the same bytes, counts, text and name
-pub passed_same : (s r : State) → r.text ≡ s.text → r.room ≡ s.room → r.name ≡ s.name → r.left ≡ s.left → r.bytes ≡ s.bytes → Passed true 0 s r
-passed_same s r text room name left bytes = record {
+pub passed_same : (s r : State) → r.text ≡ s.text → r.room ≡ s.room → r.name ≡ s.name → r.left ≡ s.left → r.bytes ≡ s.bytes → r.mode ≡ s.mode → Passed true 0 s r
+passed_same s r text room name left bytes mode = record {
+  mode = mode;
+  unshown = λ e. text;
   total = ap (λ t. length t + r.room) text ∙ ap (λ n. length s.text + n) room;
   name = name;
   left = omega (arith, left);
@@ -137,14 +145,19 @@ pub with_goes : {A : Type 0} (b c : Bool) (k m : ℕ) (s : State) (o : Option (A
 with_goes b c k m s None f h g = record { passed = tt }
 with_goes b c k m s (Some p) f h g = from_goes b c k m s p.1 (f p) h.passed (g p)
 
+pub same_goes : (s : State) → Goes true 0 s (Some s)
+same_goes s = some_goes true 0 s s (passed_same s s refl refl refl refl refl refl)
+
 -- ---- texts
 
-say_passed : (text : List ℕ) (s : State) → nat_lt s.room (length text) ≡ false
+say_passed : (text : List ℕ) (s : State) → s.mode ≡ Written → nat_lt s.room (length text) ≡ false
     → Passed true 0 s (record s { room = s.room - length text; text = s.text ++ text })
-say_passed text s fits = record {
+say_passed text s shown fits = record {
   total = let e : length (s.text ++ text) ≡ length s.text + length text = length-append s.text text in
       let le : length text ≤ s.room = grind (arith, nat_tests) in omega (arith, e, le);
   name = refl;
+  mode = refl;
+  unshown = λ e. absurd (let no : false ≡ true = ap is_hidden (sym shown ∙ e) in cc);
   left = omega arith;
   rest = rest_all s.bytes;
   cost = λ e none. omega arith;
@@ -153,11 +166,11 @@ say_passed text s fits = record {
 pub say_goes : (text : List ℕ) (s : State) → Goes true 0 s (say text s)
 unfolding say
 say_goes text s =
-    elim s.mode as (λ m. Goes true 0 s (if is_hidden m then Some s else (if nat_lt s.room (length text) then None
+    elim s.mode as (λ m. s.mode ≡ m → Goes true 0 s (if is_hidden m then Some s else (if nat_lt s.room (length text) then None
     else Some (if is_written m then record s { room = s.room - length text; text = s.text ++ text } else record s { room = s.room - length text })))) [
-      | Hidden ↦ some_goes true 0 s s (passed_same s s refl refl refl refl refl)
-      | Written ↦ elim (nat_lt s.room (length text)) as (λ q. nat_lt s.room (length text) ≡ q → Goes true 0 s (if q then None else Some (record s { room = s.room - length text; text = s.text ++ text }))) [
+      | Hidden ↦ λ e. same_goes s
+      | Written ↦ λ shown. elim (nat_lt s.room (length text)) as (λ q. nat_lt s.room (length text) ≡ q → Goes true 0 s (if q then None else Some (record s { room = s.room - length text; text = s.text ++ text }))) [
         | true ↦ λ e. none_goes true 0 s
-        | false ↦ λ e. some_goes true 0 s _ (say_passed text s e)
+        | false ↦ λ e. some_goes true 0 s _ (say_passed text s shown e)
       ] refl
-    ]
+    ] refl

@@ -1,13 +1,15 @@
--- Laws of readings: they go on through the bytes, and keep to what may be read and shown.
+-- Laws of readings: they go on through the bytes, keep to what may be read and shown, and show no
+-- path that isn't shown.
 -- Own: all of it.
-use Rattle.std.specs.Prelude.{◌≡◌, ◌≤◌, ◌<◌, ◌+◌, ◌-◌, ◌==◌, ℕ, Bool, false, List, drop, length, Some, None}
+use Rattle.std.specs.Prelude.{◌≡◌, ◌≤◌, ◌<◌, ◌+◌, ◌-◌, ◌==◌, ℕ, Bool, true, false, List, drop, length, Some, None}
 use Rattle.std.specs.List.{list_any}
 use Rattle.std.specs.Str.{byte}
 use Rattle.rust_v0.specs.declared.grammar.Production.{Production}
-use Rattle.rust_v0.specs.declared.printer.Mode.TheVariants.{Written}
+use Rattle.rust_v0.specs.declared.grammar.Production.TheVariants.{ValuePath, TypePath, TraitPath, AnyType, BareType, BracedConstant, BareConstant, Pattern}
+use Rattle.rust_v0.specs.declared.printer.Mode.TheVariants.{Written, Hidden}
 use Rattle.rust_v0.specs.State.{State}
 use Rattle.rust_v0.specs.Reads.{reads}
-use Rattle.rust_v0.specs.Name.{most_productions, most_text, paths, start}
+use Rattle.rust_v0.specs.Name.{instantiating, most_productions, most_text, paths, start}
 
 -- whether the tag of a reference stands anywhere in bytes
 abbrev pub has_reference : List ℕ → Bool
@@ -25,25 +27,56 @@ ReadsOn =
     (levels : ℕ) (production : Production) (s r : State)
     → reads levels production s ≡ Some r → IsProperEnd r.bytes s.bytes
 
--- where no `B` stands in the bytes, at most as many productions are read as bytes are passed over
+-- whether a production is a path, which has two bytes at least
+abbrev pub is_path : Production → Bool
+is_path ValuePath = true
+is_path TypePath = true
+is_path TraitPath = true
+is_path AnyType = false
+is_path BareType = false
+is_path BracedConstant = false
+is_path BareConstant = false
+is_path Pattern = false
+
+-- where no `B` stands in the bytes, at most as many productions are read as bytes are passed over,
+-- and fewer in a path
 abbrev pub ReadsOnce : Type 0
 ReadsOnce =
     (levels : ℕ) (production : Production) (s r : State)
     → reads levels production s ≡ Some r → has_reference s.bytes ≡ false
-    → s.left - r.left ≤ length s.bytes - length r.bytes
+    → (s.left - r.left ≤ length s.bytes - length r.bytes)
+    × (is_path production ≡ true → s.left - r.left < length s.bytes - length r.bytes)
 
 -- the same of a name after its prefix, with the crate that made the instance
 abbrev pub NameReadOnce : Type 0
 NameReadOnce =
     (spelled : List ℕ) (r : State)
     → paths (start Written spelled) ≡ Some r → has_reference spelled ≡ false
-    → most_productions - r.left ≤ length spelled - length r.bytes
+    → most_productions - r.left < length spelled - length r.bytes
 
 -- readings go on from left to right, and read what holds no reference once
 pub record ReadOnward : Type 0 where
   pub onward : ReadsOn
   pub once : ReadsOnce
   pub name : NameReadOnce
+
+-- a production keeps the name, so that a reference is a place in the name itself, and whether texts
+-- are shown; where they aren't, it adds none
+abbrev pub KeepsState : Type 0
+KeepsState =
+    (levels : ℕ) (production : Production) (s r : State)
+    → reads levels production s ≡ Some r
+    → (r.name ≡ s.name) × (r.mode ≡ s.mode) × (s.mode ≡ Hidden → r.text ≡ s.text)
+
+-- the crate that made the instance adds no text
+abbrev pub InstanceNotShown : Type 0
+InstanceNotShown =
+    (s r : State) → instantiating s ≡ Some r → r.text ≡ s.text
+
+-- what isn't shown adds no text
+pub record HiddenAddsNothing : Type 0 where
+  pub production : KeepsState
+  pub instance : InstanceNotShown
 
 -- no production is read past the levels, or past those that are left
 abbrev pub StopsAtLimits : Type 0

@@ -1,7 +1,7 @@
 //! Laws of v0 names and their texts: functions with a contract and no code.
 
 ghost use Rattle.rust_v0.specs.NameLaws.{BoundedText, NamesWithoutText, WorkedName};
-ghost use Rattle.rust_v0.specs.ReadLaws.{ReadOnward, WithinLimits};
+ghost use Rattle.rust_v0.specs.ReadLaws.{HiddenAddsNothing, ReadOnward, WithinLimits};
 
 /// A name has no text where none of `_R`, `R`, `__R` stands first, where no upper case letter
 /// follows the prefix, or where anything after it isn't ASCII.
@@ -23,7 +23,8 @@ pub fn bounded_text()
 {}
 
 /// Each production leaves a proper end of the bytes that it was given, so no reading goes back.
-/// Where no `B` stands in them, at most as many productions are read as bytes are passed over.
+/// Where no `B` stands in them, at most as many productions are read as bytes are passed over, and
+/// fewer in a path, so in a name too.
 pub fn read_onward()
     ensures law { ReadOnward }
 {}
@@ -32,4 +33,10 @@ pub fn read_onward()
 /// these at least, and what was shown and what may still be shown stay the same together.
 pub fn within_limits()
     ensures law { WithinLimits }
+{}
+
+/// A production keeps the name and whether texts are shown, and adds no text where they aren't. The
+/// crate that made the instance adds none.
+pub fn hidden_adds_nothing()
+    ensures law { HiddenAddsNothing }
 {}

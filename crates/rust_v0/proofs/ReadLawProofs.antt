@@ -8,10 +8,10 @@ use Rattle.rust_v0.specs.State.{State}
 use Rattle.rust_v0.specs.Reads.{reads}
 use Rattle.rust_v0.specs.Name.{instantiating, is_upper_first, most_levels, paths, start}
 use Rattle.rust_v0.specs.ReadLaws.{InstanceNotShown, IsProperEnd, KeepsCount, KeepsState, NameReadOnce, NameWithinLimits, ReadsOn, ReadsOnce, StopsAtLimits, has_reference, is_path}
-use Rattle.rust_v0.proofs.StateLemmas.{Goes, Passed, Rest, if_goes, passed_then}
+use Rattle.rust_v0.proofs.StateLemmas.{Advances, Passed, Rest, if_advances, passed_then}
 use Rattle.rust_v0.proofs.LeafLemmas.{same_leaf}
 use Rattle.rust_v0.proofs.PartLemmas.{weight}
-use Rattle.rust_v0.proofs.OnwardLemmas.{Produced, Produces, goes_less, hidden_adds, hidden_goes, reads_go, reads_produce}
+use Rattle.rust_v0.proofs.OnwardLemmas.{Produced, Produces, advances_less, hidden_adds, hidden_advances, reads_advance, reads_produce}
 
 -- what a reading gave
 pub at_some : {A : Type 0} (P : A → Type 0) (o : Option A) (a : A) → IfSome o P → o ≡ Some a → P a
@@ -62,15 +62,15 @@ reads_once levels production s r e none =
 
 -- ---- names
 
-instantiating_goes : (s : State) → Goes true 0 s (instantiating s)
+instantiating_advances : (s : State) → Advances true 0 s (instantiating s)
 unfolding instantiating
-instantiating_goes s = if_goes true 0 s (is_upper_first s.bytes) _ _ (goes_less true 1 0 s _ (omega arith) (hidden_goes (reads most_levels) (reads_go most_levels) s)) (same_leaf s)
+instantiating_advances s = if_advances true 0 s (is_upper_first s.bytes) _ _ (advances_less true 1 0 s _ (omega arith) (hidden_advances (reads most_levels) (reads_advance most_levels) s)) (same_leaf s)
 
 pub record Pathed (s r : State) : Type 0 where
   pub passed : Passed true 1 s r
   pub fewer : r.left < s.left
 
-pathed_then : (s r : State) (o : Option State) → Produced 1 s r → Goes true 0 r o → IfSome o (Pathed s)
+pathed_then : (s r : State) (o : Option State) → Produced 1 s r → Advances true 0 r o → IfSome o (Pathed s)
 pathed_then s r None h g = tt
 pathed_then s r (Some t) h g = record {
   passed = passed_then true true 1 0 s r t h.passed g.passed;
@@ -79,7 +79,7 @@ pathed_then s r (Some t) h g = record {
 
 pathed_from : (s : State) (o : Option State) → Produces 1 s o → IfSome (option_and_then instantiating o) (Pathed s)
 pathed_from s None h = tt
-pathed_from s (Some r) h = pathed_then s r (instantiating r) h.passed (instantiating_goes r)
+pathed_from s (Some r) h = pathed_then s r (instantiating r) h.passed (instantiating_advances r)
 
 pub paths_pass : (s : State) → IfSome (paths s) (Pathed s)
 unfolding paths
@@ -125,7 +125,7 @@ if_adds false s x y h g = g
 
 instance_adds : (s : State) → IfSome (instantiating s) (λ r. r.text ≡ s.text)
 unfolding instantiating
-instance_adds s = if_adds (is_upper_first s.bytes) s _ _ (hidden_adds (reads most_levels) (reads_go most_levels) s) refl
+instance_adds s = if_adds (is_upper_first s.bytes) s _ _ (hidden_adds (reads most_levels) (reads_advance most_levels) s) refl
 
 pub instance_not_shown : InstanceNotShown
 instance_not_shown s r e = at_some (λ x. x.text ≡ s.text) (instantiating s) r (instance_adds s) e

@@ -115,38 +115,38 @@ passed_same s r text room name left bytes mode = record {
 
 -- ---- readings
 
-pub record Goes (b : Bool) (k : ℕ) (s : State) (o : Option State) : Type 0 where
+pub record Advances (b : Bool) (k : ℕ) (s : State) (o : Option State) : Type 0 where
   pub passed : IfSome o (Passed b k s)
 
-pub record GoesWith {A : Type 0} (b : Bool) (k : ℕ) (s : State) (o : Option (A × State)) : Type 0 where
+pub record AdvancesWith {A : Type 0} (b : Bool) (k : ℕ) (s : State) (o : Option (A × State)) : Type 0 where
   pub passed : IfSome o (λ p. Passed b k s p.1)
 
-pub none_goes : (b : Bool) (k : ℕ) (s : State) → Goes b k s None
-none_goes b k s = record { passed = tt }
+pub none_advances : (b : Bool) (k : ℕ) (s : State) → Advances b k s None
+none_advances b k s = record { passed = tt }
 
-pub some_goes : (b : Bool) (k : ℕ) (s r : State) → Passed b k s r → Goes b k s (Some r)
-some_goes b k s r h = record { passed = h }
+pub some_advances : (b : Bool) (k : ℕ) (s r : State) → Passed b k s r → Advances b k s (Some r)
+some_advances b k s r h = record { passed = h }
 
-pub if_goes : (b : Bool) (k : ℕ) (s : State) (q : Bool) (x y : Option State) → Goes b k s x → Goes b k s y → Goes b k s (if q then x else y)
-if_goes b k s true x y h g = h
-if_goes b k s false x y h g = g
+pub if_advances : (b : Bool) (k : ℕ) (s : State) (q : Bool) (x y : Option State) → Advances b k s x → Advances b k s y → Advances b k s (if q then x else y)
+if_advances b k s true x y h g = h
+if_advances b k s false x y h g = g
 
-pub from_goes : (b c : Bool) (k m : ℕ) (s r : State) (o : Option State) → Passed b k s r → Goes c m r o → Goes (b && c) (k + m) s o
-from_goes b c k m s r None h g = record { passed = tt }
-from_goes b c k m s r (Some t) h g = record { passed = passed_then b c k m s r t h g.passed }
+pub from_advances : (b c : Bool) (k m : ℕ) (s r : State) (o : Option State) → Passed b k s r → Advances c m r o → Advances (b && c) (k + m) s o
+from_advances b c k m s r None h g = record { passed = tt }
+from_advances b c k m s r (Some t) h g = record { passed = passed_then b c k m s r t h g.passed }
 
-pub then_goes : (b c : Bool) (k m : ℕ) (s : State) (o : Option State) (f : Reading) → Goes b k s o → ((r : State) → Goes c m r (f r))
-    → Goes (b && c) (k + m) s (option_and_then f o)
-then_goes b c k m s None f h g = record { passed = tt }
-then_goes b c k m s (Some r) f h g = from_goes b c k m s r (f r) h.passed (g r)
+pub then_advances : (b c : Bool) (k m : ℕ) (s : State) (o : Option State) (f : Reading) → Advances b k s o → ((r : State) → Advances c m r (f r))
+    → Advances (b && c) (k + m) s (option_and_then f o)
+then_advances b c k m s None f h g = record { passed = tt }
+then_advances b c k m s (Some r) f h g = from_advances b c k m s r (f r) h.passed (g r)
 
-pub with_goes : {A : Type 0} (b c : Bool) (k m : ℕ) (s : State) (o : Option (A × State)) (f : A × State → Option State) → GoesWith b k s o
-    → ((p : A × State) → Goes c m p.1 (f p)) → Goes (b && c) (k + m) s (option_and_then f o)
-with_goes b c k m s None f h g = record { passed = tt }
-with_goes b c k m s (Some p) f h g = from_goes b c k m s p.1 (f p) h.passed (g p)
+pub with_advances : {A : Type 0} (b c : Bool) (k m : ℕ) (s : State) (o : Option (A × State)) (f : A × State → Option State) → AdvancesWith b k s o
+    → ((p : A × State) → Advances c m p.1 (f p)) → Advances (b && c) (k + m) s (option_and_then f o)
+with_advances b c k m s None f h g = record { passed = tt }
+with_advances b c k m s (Some p) f h g = from_advances b c k m s p.1 (f p) h.passed (g p)
 
-pub same_goes : (s : State) → Goes true 0 s (Some s)
-same_goes s = some_goes true 0 s s (passed_same s s refl refl refl refl refl refl)
+pub same_advances : (s : State) → Advances true 0 s (Some s)
+same_advances s = some_advances true 0 s s (passed_same s s refl refl refl refl refl refl)
 
 -- ---- texts
 
@@ -163,14 +163,14 @@ say_passed text s shown fits = record {
   cost = λ e none. omega arith;
 }
 
-pub say_goes : (text : List ℕ) (s : State) → Goes true 0 s (say text s)
+pub say_advances : (text : List ℕ) (s : State) → Advances true 0 s (say text s)
 unfolding say
-say_goes text s =
-    elim s.mode as (λ m. s.mode ≡ m → Goes true 0 s (if is_hidden m then Some s else (if nat_lt s.room (length text) then None
+say_advances text s =
+    elim s.mode as (λ m. s.mode ≡ m → Advances true 0 s (if is_hidden m then Some s else (if nat_lt s.room (length text) then None
     else Some (if is_written m then record s { room = s.room - length text; text = s.text ++ text } else record s { room = s.room - length text })))) [
-      | Hidden ↦ λ e. same_goes s
-      | Written ↦ λ shown. elim (nat_lt s.room (length text)) as (λ q. nat_lt s.room (length text) ≡ q → Goes true 0 s (if q then None else Some (record s { room = s.room - length text; text = s.text ++ text }))) [
-        | true ↦ λ e. none_goes true 0 s
-        | false ↦ λ e. some_goes true 0 s _ (say_passed text s shown e)
+      | Hidden ↦ λ e. same_advances s
+      | Written ↦ λ shown. elim (nat_lt s.room (length text)) as (λ q. nat_lt s.room (length text) ≡ q → Advances true 0 s (if q then None else Some (record s { room = s.room - length text; text = s.text ++ text }))) [
+        | true ↦ λ e. none_advances true 0 s
+        | false ↦ λ e. some_advances true 0 s _ (say_passed text s shown e)
       ] refl
     ] refl

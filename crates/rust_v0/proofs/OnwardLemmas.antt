@@ -27,6 +27,8 @@ passed_less b k m s r le h = record {
   total = h.total;
   mode = h.mode;
   unshown = h.unshown;
+  shown = h.shown;
+  grown = h.grown;
   name = h.name;
   left = h.left;
   rest = rest_less k m s.bytes r.bytes le h.rest;
@@ -57,6 +59,8 @@ hidden_passed k s r h = record {
   name = h.name;
   mode = refl;
   unshown = λ e. h.unshown refl;
+  shown = h.shown;
+  grown = h.grown;
   left = h.left;
   rest = h.rest;
   cost = h.cost;
@@ -91,14 +95,14 @@ nested_advances inner h path s =
     then_advances true true (weight path) 0 space.1 _ _ (h path space.1) (λ around. segment_leaf space.0 around)))
 
 away_passed : (k : ℕ) (s r : State) (bytes : List ℕ) → Passed true k (with_bytes bytes s) r → Passed false 0 s (with_bytes s.bytes r)
-away_passed k s r bytes h = record { total = h.total; name = h.name; mode = h.mode; unshown = h.unshown; left = h.left; rest = rest_all s.bytes; cost = λ e none. absurd (let no : false ≡ true = e in cc) }
+away_passed k s r bytes h = record { total = h.total; name = h.name; mode = h.mode; unshown = h.unshown; shown = h.shown; grown = h.grown; left = h.left; rest = rest_all s.bytes; cost = λ e none. absurd (let no : false ≡ true = e in cc) }
 
 away_advances : (k : ℕ) (s : State) (bytes : List ℕ) (o : Option State) → Advances true k (with_bytes bytes s) o → Advances false 0 s (option_map (with_bytes s.bytes) o)
 away_advances k s bytes None h = record { passed = tt }
 away_advances k s bytes (Some r) h = record { passed = away_passed k s r bytes h.passed }
 
 uncounted_passed : (k : ℕ) (s r : State) → Passed true k s r → Passed false k s r
-uncounted_passed k s r h = record { total = h.total; mode = h.mode; unshown = h.unshown; name = h.name; left = h.left; rest = h.rest; cost = λ e none. h.cost refl none }
+uncounted_passed k s r h = record { total = h.total; mode = h.mode; unshown = h.unshown; shown = h.shown; grown = h.grown; name = h.name; left = h.left; rest = h.rest; cost = λ e none. h.cost refl none }
 
 target_advances : (q : Bool) (inner : Inner) → InnerAdvances inner → (production : Production) (bytes : List ℕ) (r : State)
     → Advances false 0 r (if q then Some r else option_map (with_bytes r.bytes) (inner production (with_bytes bytes r)))
@@ -254,6 +258,8 @@ produced k s t parts rest pos front h =
         total = h.total;
         mode = h.mode;
         unshown = h.unshown;
+        shown = h.shown;
+        grown = h.grown;
         name = h.name;
         left = omega (arith, down);
         rest = rest_less (front.tags + parts_weight parts) k s.bytes t.bytes (omega (arith, enough)) whole;

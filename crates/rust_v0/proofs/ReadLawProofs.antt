@@ -1,13 +1,14 @@
 -- Readings go on, and keep to the limits.
-use Rattle.std.proofs.Common.{◌≡◌, ◌∙◌, ◌≤◌, ◌<◌, ◌+◌, ◌-◌, ℕ, zero, suc, Bool, true, false, List, drop, length, ap, refl, subst, sym, arith}
+use Rattle.std.proofs.Common.{◌≡◌, ◌∙◌, ◌≤◌, ◌<◌, ◌+◌, ◌-◌, ℕ, zero, suc, Bool, true, false, List, take, drop, length, ap, refl, subst, sym, arith}
 use Rattle.std.specs.Prelude.{◌==◌, if◌then◌else◌, Option, Some, None, option_and_then, IfSome}
+use Rattle.std.proofs.Math.Seq.{take-append_seam}
 use Rattle.rust_v0.specs.declared.grammar.Production.{Production}
 use Rattle.rust_v0.specs.declared.grammar.Production.TheVariants.{ValuePath, TypePath, TraitPath, AnyType, BareType, BracedConstant, BareConstant, Pattern}
 use Rattle.rust_v0.specs.declared.printer.Mode.TheVariants.{Written}
 use Rattle.rust_v0.specs.State.{State}
 use Rattle.rust_v0.specs.Reads.{reads}
 use Rattle.rust_v0.specs.Name.{instantiating, is_upper_first, most_levels, paths, start}
-use Rattle.rust_v0.specs.ReadLaws.{InstanceNotShown, IsProperEnd, KeepsCount, KeepsState, NameReadOnce, NameWithinLimits, ReadsOn, ReadsOnce, StopsAtLimits, has_reference, is_path}
+use Rattle.rust_v0.specs.ReadLaws.{InstanceNotShown, IsProperEnd, KeepsCount, KeepsState, NameReadOnce, NameWithinLimits, ReadsOn, ReadsOnce, StopsAtLimits, TextGrows, has_reference, is_path_production}
 use Rattle.rust_v0.proofs.StateLemmas.{Advances, Passed, Rest, if_advances, passed_then}
 use Rattle.rust_v0.proofs.LeafLemmas.{same_leaf}
 use Rattle.rust_v0.proofs.PartLemmas.{weight}
@@ -44,7 +45,7 @@ less_from s r h none =
     let sized : length r.bytes + h.rest.past ≡ length s.bytes = h.rest.sized in
     omega (arith, cost, left, sized)
 
-path_less : (production : Production) (s r : State) → Passed true (weight production) s r → has_reference s.bytes ≡ false → is_path production ≡ true
+path_less : (production : Production) (s r : State) → Passed true (weight production) s r → has_reference s.bytes ≡ false → is_path_production production ≡ true
     → s.left - r.left < length s.bytes - length r.bytes
 path_less ValuePath s r h none e = less_from s r h none
 path_less TypePath s r h none e = less_from s r h none
@@ -109,6 +110,11 @@ reads_stop production s = (refl, stops production s)
 pub reads_count : KeepsCount
 reads_count levels production s r e =
     let h : Produced (weight production) s r = produced_at levels production s r e in (h.counted, h.passed.total)
+
+pub text_grows : TextGrows
+text_grows levels production s r e =
+    let h : Passed true (weight production) s r = (produced_at levels production s r e).passed in
+    ap (λ text. take (length s.text) text) h.grown ∙ take-append_seam s.text h.shown
 
 pub name_within_limits : NameWithinLimits
 name_within_limits spelled r e = let h : Pathed (start Written spelled) r = pathed_at spelled r e in (h.fewer, h.passed.total ∙ omega arith)

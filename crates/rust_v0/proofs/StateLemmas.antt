@@ -1,6 +1,7 @@
 -- What a reading leaves of a state: an end of its bytes, its name, as much text and room.
 use Rattle.std.proofs.Common.{◌≡◌, ◌∙◌, ◌≤◌, ◌+◌, ◌-◌, ℕ, zero, suc, Bool, true, false, List, [], ◌∷◌, ◌++◌, drop, length, ap, sym, refl, arith, length-append}
 use Rattle.std.proofs.Math.Seq.{drop-nil}
+use Rattle.std.proofs.lemmas.List.{append-nil, append_assoc}
 use Rattle.std.specs.Prelude.{◌&&◌, nat_lt, if◌then◌else◌, Option, Some, None, option_and_then, IfSome}
 use Rattle.std.proofs.lemmas.Bool.Decides.{nat_tests}
 use Rattle.rust_v0.specs.declared.printer.Mode.TheVariants.{Written, Hidden}
@@ -56,13 +57,15 @@ none_in_rest k bytes rest h none = ap has_reference h.ends ∙ none_after h.past
 
 -- ---- states
 
--- a state before a reading and after it: b says that no reference was followed, and then k bytes more
--- are passed over than productions are read, at least
+-- a state before a reading and after it: b says that no reference was followed, and then k bytes
+-- more are passed over than productions are read, at least
 pub record Passed (b : Bool) (k : ℕ) (s r : State) : Type 0 where
   pub total : length r.text + r.room ≡ length s.text + s.room
   pub name : r.name ≡ s.name
   pub mode : r.mode ≡ s.mode
   pub unshown : s.mode ≡ Hidden → r.text ≡ s.text
+  pub shown : List ℕ
+  pub grown : r.text ≡ s.text ++ shown
   pub left : r.left ≤ s.left
   pub rest : Rest k s.bytes r.bytes
   pub cost : b ≡ true → has_reference s.bytes ≡ false → length r.bytes + s.left + k ≤ length s.bytes + r.left
@@ -81,6 +84,8 @@ passed_then b c k m s r t h g = record {
   name = g.name ∙ h.name;
   mode = g.mode ∙ h.mode;
   unshown = λ e. g.unshown (h.mode ∙ e) ∙ h.unshown e;
+  shown = h.shown ++ g.shown;
+  grown = g.grown ∙ ap (λ text. text ++ g.shown) h.grown ∙ append_assoc s.text h.shown g.shown;
   left = let x : r.left ≤ s.left = h.left in let y : t.left ≤ r.left = g.left in omega (arith, x, y);
   rest = rest_then k m s.bytes r.bytes t.bytes h.rest g.rest;
   cost = λ e none.
@@ -95,6 +100,8 @@ passed_bytes k s rest h = record {
   total = refl;
   mode = refl;
   unshown = λ e. refl;
+  shown = [];
+  grown = sym (append-nil s.text);
   name = refl;
   left = omega arith;
   rest = h;
@@ -106,6 +113,8 @@ pub passed_same : (s r : State) → r.text ≡ s.text → r.room ≡ s.room → 
 passed_same s r text room name left bytes mode = record {
   mode = mode;
   unshown = λ e. text;
+  shown = [];
+  grown = text ∙ sym (append-nil s.text);
   total = ap (λ t. length t + r.room) text ∙ ap (λ n. length s.text + n) room;
   name = name;
   left = omega (arith, left);
@@ -158,6 +167,8 @@ say_passed text s shown fits = record {
   name = refl;
   mode = refl;
   unshown = λ e. absurd (let no : false ≡ true = ap is_hidden (sym shown ∙ e) in cc);
+  shown = text;
+  grown = refl;
   left = omega arith;
   rest = rest_all s.bytes;
   cost = λ e none. omega arith;

@@ -1,7 +1,7 @@
 -- Laws of readings: they go on through the bytes, keep to what may be read and shown, and show no
 -- path that isn't shown.
 -- Own: all of it.
-use Rattle.std.specs.Prelude.{◌≡◌, ◌≤◌, ◌<◌, ◌+◌, ◌-◌, ◌==◌, ℕ, Bool, true, false, List, drop, length, Some, None}
+use Rattle.std.specs.Prelude.{◌≡◌, ◌≤◌, ◌<◌, ◌+◌, ◌-◌, ◌==◌, ℕ, Bool, true, false, List, take, drop, length, Some, None}
 use Rattle.std.specs.List.{list_any}
 use Rattle.std.specs.Str.{byte}
 use Rattle.rust_v0.specs.declared.grammar.Production.{Production}
@@ -28,15 +28,15 @@ ReadsOn =
     → reads levels production s ≡ Some r → IsProperEnd r.bytes s.bytes
 
 -- whether a production is a path, which has two bytes at least
-abbrev pub is_path : Production → Bool
-is_path ValuePath = true
-is_path TypePath = true
-is_path TraitPath = true
-is_path AnyType = false
-is_path BareType = false
-is_path BracedConstant = false
-is_path BareConstant = false
-is_path Pattern = false
+abbrev pub is_path_production : Production → Bool
+is_path_production ValuePath = true
+is_path_production TypePath = true
+is_path_production TraitPath = true
+is_path_production AnyType = false
+is_path_production BareType = false
+is_path_production BracedConstant = false
+is_path_production BareConstant = false
+is_path_production Pattern = false
 
 -- where no `B` stands in the bytes, at most as many productions are read as bytes are passed over,
 -- and fewer in a path
@@ -45,7 +45,7 @@ ReadsOnce =
     (levels : ℕ) (production : Production) (s r : State)
     → reads levels production s ≡ Some r → has_reference s.bytes ≡ false
     → (s.left - r.left ≤ length s.bytes - length r.bytes)
-    × (is_path production ≡ true → s.left - r.left < length s.bytes - length r.bytes)
+    × (is_path_production production ≡ true → s.left - r.left < length s.bytes - length r.bytes)
 
 -- the same of a name after its prefix, with the crate that made the instance
 abbrev pub NameReadOnce : Type 0
@@ -93,6 +93,12 @@ KeepsCount =
     → reads levels production s ≡ Some r
     → (r.left < s.left) × (length r.text + r.room ≡ length s.text + s.room)
 
+-- a text only grows: none of it is taken back, so a reading may stop at the first byte too many
+abbrev pub TextGrows : Type 0
+TextGrows =
+    (levels : ℕ) (production : Production) (s r : State)
+    → reads levels production s ≡ Some r → take (length s.text) r.text ≡ s.text
+
 -- so a name is read with 65,536 productions at most, and the text of its path has at most
 -- 1,000,000 bytes
 abbrev pub NameWithinLimits : Type 0
@@ -105,4 +111,5 @@ NameWithinLimits =
 pub record WithinLimits : Type 0 where
   pub stop : StopsAtLimits
   pub count : KeepsCount
+  pub text : TextGrows
   pub name : NameWithinLimits

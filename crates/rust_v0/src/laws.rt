@@ -30,7 +30,8 @@ pub fn read_onward()
 {}
 
 /// Nothing is read past the levels and the productions that are left, each production takes one of
-/// these at least, and what was shown and what may still be shown stay the same together.
+/// these at least, what was shown and what may still be shown stay the same together, and a text
+/// only grows.
 pub fn within_limits()
     ensures law { WithinLimits }
 {}

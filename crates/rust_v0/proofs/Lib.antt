@@ -4,5 +4,12 @@ pub mod LevelLemmas
 pub mod ReadLemmas
 pub mod LlvmLemmas
 pub mod SuffixLemmas
+pub mod StateLemmas
+pub mod BytesLemmas
+pub mod LeafLemmas
+pub mod PartLemmas
+pub mod OnwardLemmas
 pub mod NameLawProofs
+pub mod ReadLawProofs
+pub mod TextLawProofs
 pub mod WorkedProofs

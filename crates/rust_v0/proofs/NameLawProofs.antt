@@ -1,9 +1,9 @@
 -- Names that have no text, and worked names.
-use Rattle.std.proofs.Common.{◌≡◌, ◌∙◌, ℕ, Bool, true, false, List, [], ◌∷◌, take, length, ap, sym, refl}
+use Rattle.std.proofs.Common.{◌≡◌, ◌∙◌, ℕ, Bool, true, false, List, [], ◌∷◌, ap, sym, refl}
 use Rattle.std.specs.Prelude.{◌&&◌, if◌then◌else◌, nat_eq, Option, Some, None, option_and_then, codes}
 use Rattle.std.specs.Char.{is_ascii}
 use Rattle.std.specs.List.{list_all, starts_with}
-use Rattle.rust_v0.specs.Name.{after_first, as_path, is_llvm_byte, is_upper_first, llvm_mark, prefixes, spelled_text, v0_text, without_llvm, without_prefix}
+use Rattle.rust_v0.specs.Name.{after_first, as_path, is_upper_first, prefixes, spelled_text, v0_text, without_llvm, without_prefix}
 use Rattle.rust_v0.specs.NameLaws.{NeedsAscii, NeedsPrefix, NeedsUpperCase}
 
 -- what begins a name without LLVM's mark begins the name

@@ -1,5 +1,5 @@
 -- Values of digits: one digit more, and none less.
-use Rattle.std.proofs.Common.{◌≡◌, ℕ, suc, ◌+◌, ◌*◌, ◌^◌, ◌<◌, ◌≤◌, List, [], ◌∷◌, length, drop, get_or, arith, add-one, drop-cons, ap, sym, ◌∙◌}
+use Rattle.std.proofs.Common.{◌≡◌, ℕ, ◌+◌, ◌*◌, ◌^◌, ◌<◌, ◌≤◌, List, [], ◌∷◌, length, drop, get_or, arith, add-one, drop-cons}
 use Rattle.std.proofs.Common.{refl}
 use Rattle.std.proofs.Math.Nat.{mul-le-mul_left}
 use Rattle.rust_v0.specs.Numbers.{digit_of, value_from}

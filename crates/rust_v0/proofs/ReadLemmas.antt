@@ -1,12 +1,12 @@
 -- Readings with a level, an item or a binding more.
-use Rattle.std.proofs.Common.{◌≡◌, ℕ, zero, suc, ◌+◌, ◌-◌, ◌<◌, Bool, List, Option, Some, None, refl, arith, sub-one, true, ap}
+use Rattle.std.proofs.Common.{◌≡◌, ℕ, zero, suc, ◌-◌, ◌<◌, Bool, List, Some, None, refl, arith, sub-one, true, ap}
 use Rattle.std.specs.Str.{byte}
 use Rattle.rust_v0.specs.declared.grammar.Production.{Production}
 use Rattle.rust_v0.specs.declared.grammar.Item.{Item}
 use Rattle.rust_v0.specs.Numbers.{after}
 use Rattle.rust_v0.specs.State.{State, say, ◌>>=◌}
 use Rattle.rust_v0.specs.Leaves.{if_next, nothing}
-use Rattle.rust_v0.specs.Reads.{Inner, before_binding, binding_name, bindings, bindings_on, item_reading, more_items, parts_reading, part_reading, reads, rule, value}
+use Rattle.rust_v0.specs.Reads.{Inner, before_binding, binding_name, bindings, bindings_on, item_reading, more_items, reads, rule, value}
 
 pub reads_none : (levels : ℕ) (production : Production) (s : State) → levels ≡ 0 → reads levels production s ≡ None
 unfolding reads

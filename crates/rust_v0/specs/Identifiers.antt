@@ -2,12 +2,12 @@
 -- Source: Rust RFC 2603; RFC 3492 (Punycode).
 -- Own: Punycode that is invalid, of more than 1,024 bytes or of more than 128 characters is shown as
 -- it stands.
-use Rattle.std.specs.Prelude.{ℕ, ◌==◌, ◌&&◌, ◌||◌, Bool, true, false, List, [], ◌∷◌, ◌++◌, length, take, drop, nat_le, if◌then◌else◌, Option, Some, None, is_some, option_and_then, unwrap_or, codes}
+use Rattle.std.specs.Prelude.{ℕ, ◌==◌, ◌&&◌, ◌||◌, Bool, true, false, List, ◌++◌, length, take, drop, nat_le, if◌then◌else◌, Option, Some, None, is_some, option_and_then, unwrap_or, codes}
 use Rattle.std.specs.Char.{is_ascii, is_ascii_digit, is_ascii_lowercase}
 use Rattle.std.specs.List.{list_all, prefix_len, before_last, after_last}
 use Rattle.std.specs.Str.{byte}
 use Rattle.idna.specs.Punycode.{decode}
-use Rattle.rust_v0.specs.Numbers.{after, value_in}
+use Rattle.rust_v0.specs.Numbers.{after, decimal_base, value_in}
 
 -- how many digits a length has: a `0` stands alone
 abbrev pub length_digits : List ℕ → ℕ
@@ -29,7 +29,7 @@ unfoldable pub word_at : List ℕ → Option (List ℕ × List ℕ)
 word_at bytes =
     let n = length_digits bytes in
     if length (take n bytes) == 0 then None
-    else split_word (value_in 10 (take n bytes)) (without_underscore (drop n bytes))
+    else split_word (value_in decimal_base (take n bytes)) (without_underscore (drop n bytes))
 
 -- whether a byte is `_`
 abbrev pub is_underscore : ℕ → Bool
@@ -68,12 +68,20 @@ hyphenated word =
     if length (ascii_part word) == 0 then digits_part word
     else ascii_part word ++ codes "-" ++ digits_part word
 
--- at most 128 characters
+-- the most bytes of Punycode, and the most characters, that are decoded
+abbrev pub most_punycode : ℕ
+most_punycode = 1_024
+
+abbrev pub most_characters : ℕ
+most_characters = 128
+
+-- characters, if they are few enough
 abbrev pub if_few : Option (List ℕ) → Option (List ℕ)
-if_few found = option_and_then (λ cs. if nat_le (length cs) 128 then Some cs else None) found
+if_few found =
+    option_and_then (λ cs. if nat_le (length cs) most_characters then Some cs else None) found
 
 -- the characters that Punycode is shown as
 unfoldable pub decoded : List ℕ → Option (List ℕ)
 decoded word =
-    if nat_le (length (hyphenated word)) 1024 && list_all is_puny_digit (digits_part word)
+    if nat_le (length (hyphenated word)) most_punycode && list_all is_puny_digit (digits_part word)
     then if_few (decode (hyphenated word)) else None

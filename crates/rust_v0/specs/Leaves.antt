@@ -1,12 +1,13 @@
 -- What has no production inside: names, lifetimes, literals, what stands before a function.
 -- Source: Rust RFC 2603. Own: at most 2^64 - 1 lifetimes are bound.
-use Rattle.std.specs.Prelude.{ℕ, zero, suc, ◌+◌, ◌-◌, ◌*◌, ◌^◌, ◌%◌, ◌==◌, ◌||◌, Bool, true, false, List, [], ◌∷◌, length, map, chars, nat_lt, if◌then◌else◌, Option, Some, None, option_map, option_and_then, codes}
+use Rattle.std.specs.Prelude.{ℕ, zero, suc, ◌+◌, ◌-◌, ◌*◌, ◌^◌, ◌%◌, ◌==◌, ◌||◌, Bool, true, List, [], ◌∷◌, length, map, chars, nat_lt, if◌then◌else◌, Option, Some, None, option_map, codes}
 use Rattle.std.specs.Char.{is_ascii_digit, is_ascii_alphabetic, is_ascii_uppercase}
 use Rattle.std.specs.Int.{is_in_range}
 use Rattle.std.specs.Str.{byte, is_utf8}
 use Rattle.rust_v0.specs.declared.grammar.Leaf.{Leaf}
 use Rattle.rust_v0.specs.declared.grammar.Leaf.TheVariants.{Root, ReferenceLifetime, ObjectLifetime, Binder, Unsafety, Abi, Integer, Sign, Boolean, Character, Text, Open}
-use Rattle.rust_v0.specs.Numbers.{after, counted, nibbles, number_62, value_in}
+use Rattle.idna.specs.Punycode.{is_scalar}
+use Rattle.rust_v0.specs.Numbers.{after, counted, decimal_base, hex_base, letter_count, nibbles, number_62, value_in}
 use Rattle.rust_v0.specs.Identifiers.{identifier_at, word_at}
 use Rattle.rust_v0.specs.State.{State, Reading, say, is_hidden, taken, ◌>>=◌}
 use Rattle.rust_v0.specs.Shown.{say_char, say_chars, say_decimal, say_escaped, say_identifier, say_quoted}
@@ -52,7 +53,7 @@ letter s = taken s (letter_at s.bytes)
 -- the name of a lifetime that is bound: level 0 is the outermost
 unfoldable pub say_level : ℕ → Reading
 say_level level s =
-    if nat_lt level 26 then say (codes "'") s >>= say_char (byte "a" + level)
+    if nat_lt level letter_count then say (codes "'") s >>= say_char (byte "a" + level)
     else say (codes "'_") s >>= say_decimal level
 
 -- the name of a lifetime: 1 is the innermost, and 0 an erased one
@@ -182,7 +183,7 @@ abi s = if_next (byte "K")
 -- a number that has at most 64 bits in decimal, and any other by its digits as they stand
 abbrev pub say_integer : List ℕ → Reading
 say_integer digits s =
-    if nat_lt (value_in 16 digits) (2 ^ 64) then say_decimal (value_in 16 digits) s
+    if nat_lt (value_in hex_base digits) (2 ^ 64) then say_decimal (value_in hex_base digits) s
     else say (codes "0x") s >>= say digits
 
 -- hexadecimal digits, up to their `_`
@@ -201,7 +202,8 @@ sign s = if_next (byte "n") (say (codes "-")) nothing s
 
 -- a number of at most 64 bits, and the state after it
 abbrev pub as_literal : List ℕ × State → Option (ℕ × State)
-as_literal p = if nat_lt (value_in 16 p.0) (2 ^ 64) then Some (value_in 16 p.0, p.1) else None
+as_literal p =
+    if nat_lt (value_in hex_base p.0) (2 ^ 64) then Some (value_in hex_base p.0, p.1) else None
 
 -- the number of a literal
 unfoldable pub literal : State → Option (ℕ × State)
@@ -217,13 +219,9 @@ boolean s = do
   n ← literal s
   say_boolean n.0 n.1
 
--- whether a number is a Unicode scalar value: a code point that is no surrogate
-abbrev pub is_scalar_value : ℕ → Bool
-is_scalar_value n = nat_lt n 0xD800 || is_in_range 0xE000 0x10_FFFF n
-
--- a Unicode scalar value
+-- a Unicode scalar value: a code point that is no surrogate
 abbrev pub as_scalar : ℕ → Option ℕ
-as_scalar n = if is_scalar_value n then Some n else None
+as_scalar n = if is_scalar n then Some n else None
 
 -- the character of a literal
 unfoldable pub scalar : State → Option (ℕ × State)
@@ -242,14 +240,14 @@ character s = do
 -- the value of a hexadecimal digit
 abbrev pub nibble_of : ℕ → ℕ
 nibble_of c =
-    if is_ascii_digit c then c - 48
-    else (if is_in_range (byte "a") (byte "f") c then c - 97 + 10 else 0)
+    if is_ascii_digit c then c - byte "0"
+    else (if is_in_range (byte "a") (byte "f") c then c - byte "a" + decimal_base else 0)
 
 -- the bytes that pairs of digits spell
 abbrev pub bytes_of : List ℕ → List ℕ
 bytes_of [] = []
 bytes_of (high ∷ []) = []
-bytes_of (high ∷ low ∷ digits) = (nibble_of high * 16 + nibble_of low) ∷ bytes_of digits
+bytes_of (high ∷ low ∷ digits) = (nibble_of high * hex_base + nibble_of low) ∷ bytes_of digits
 
 -- the characters of bytes between quotes, if they are UTF-8
 abbrev pub say_string : List ℕ → Reading

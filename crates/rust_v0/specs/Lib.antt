@@ -7,3 +7,4 @@ pub mod Leaves
 pub mod Reads
 pub mod Name
 pub mod NameLaws
+pub mod ReadLaws

@@ -2,7 +2,7 @@
 -- Source: Rust RFC 2603; what LLVM appends after `.llvm.`.
 -- Own: a name with any fault has no text; 500 levels, 65,536 productions and 1,000,000 bytes of text
 -- at most; which suffixes.
-use Rattle.std.specs.Prelude.{ℕ, ◌==◌, ◌&&◌, ◌||◌, Bool, true, false, List, [], ◌∷◌, ◌++◌, length, drop, nat_eq, if◌then◌else◌, Option, Some, None, option_map, option_and_then, codes}
+use Rattle.std.specs.Prelude.{ℕ, ◌==◌, ◌&&◌, ◌||◌, Bool, true, false, List, [], ◌∷◌, ◌++◌, length, drop, nat_eq, if◌then◌else◌, Option, Some, None, option_and_then, codes}
 use Rattle.std.specs.Char.{is_ascii, is_ascii_digit, is_ascii_graphic, is_ascii_uppercase}
 use Rattle.std.specs.Int.{is_in_range}
 use Rattle.std.specs.List.{list_all, starts_with}

@@ -6,12 +6,26 @@ use Rattle.std.specs.Int.{is_in_range}
 use Rattle.std.specs.List.{prefix_len}
 use Rattle.std.specs.Str.{byte}
 
+-- the bases of numbers: decimal, hexadecimal, base 62
+abbrev pub decimal_base : ℕ
+decimal_base = 10
+
+abbrev pub hex_base : ℕ
+hex_base = 16
+
+abbrev pub base_62 : ℕ
+base_62 = 62
+
+-- how many letters the alphabet has
+abbrev pub letter_count : ℕ
+letter_count = 26
+
 -- the value of a digit: `0` to `9`, `a` to `z` from 10 on, `A` to `Z` from 36 on
 abbrev pub digit_of : ℕ → ℕ
 digit_of c =
-    if is_ascii_digit c then c - 48
-    else (if is_ascii_lowercase c then c - 97 + 10
-    else (if is_ascii_uppercase c then c - 65 + 36 else 0))
+    if is_ascii_digit c then c - byte "0"
+    else (if is_ascii_lowercase c then c - byte "a" + decimal_base
+    else (if is_ascii_uppercase c then c - byte "A" + (decimal_base + letter_count) else 0))
 
 -- the value of digits after those of a number
 abbrev pub value_from : ℕ → ℕ → List ℕ → ℕ
@@ -33,7 +47,7 @@ after b (c ∷ bytes) = if c == b then Some bytes else None
 
 -- the value of digits in base 62 and one more, and zero without a digit
 unfoldable pub value_62 : List ℕ → Option ℕ
-value_62 digits = if length digits == 0 then Some 0 else fits (value_in 62 digits + 1)
+value_62 digits = if length digits == 0 then Some 0 else fits (value_in base_62 digits + 1)
 
 -- a number in base 62 up to its `_`, and what follows
 unfoldable pub number_62 : List ℕ → Option (ℕ × List ℕ)

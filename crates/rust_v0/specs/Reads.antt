@@ -2,7 +2,7 @@
 -- another.
 -- Source: Rust RFC 2603. Own: a path that isn't shown is read, and its references are not followed;
 -- the levels, and how many productions are read.
-use Rattle.std.specs.Prelude.{ℕ, zero, suc, ◌+◌, ◌-◌, ◌==◌, ◌||◌, Bool, true, false, List, [], ◌∷◌, length, drop, nat_lt, if◌then◌else◌, Option, Some, None, option_map, option_and_then, codes}
+use Rattle.std.specs.Prelude.{ℕ, zero, suc, ◌+◌, ◌-◌, ◌==◌, ◌||◌, Bool, true, false, List, [], ◌∷◌, length, drop, nat_lt, if◌then◌else◌, Option, Some, None, option_map, codes}
 use Rattle.std.specs.Str.{byte}
 use Rattle.rust_v0.specs.declared.grammar.Production.{Production}
 use Rattle.rust_v0.specs.declared.grammar.Production.TheVariants.{TypePath, TraitPath, AnyType, BracedConstant, BareConstant, Pattern}

@@ -1,11 +1,11 @@
 -- Texts that are shown: characters, numbers, identifiers, what stands between quotes.
 -- Source: Rust RFC 2603. Own: which characters stand as escapes between quotes.
-use Rattle.std.specs.Prelude.{ℕ, ◌==◌, ◌||◌, Bool, true, false, List, [], ◌∷◌, if◌then◌else◌, Option, Some, None, codes, decimal, encode_utf8}
+use Rattle.std.specs.Prelude.{ℕ, ◌==◌, ◌||◌, Bool, List, [], ◌∷◌, if◌then◌else◌, Option, Some, None, codes, decimal, encode_utf8}
 use Rattle.std.specs.Int.{is_in_range}
 use Rattle.std.specs.Char.Escape.{escape_unicode}
 use Rattle.std.specs.Str.{byte}
 use Rattle.rust_v0.specs.Identifiers.{decoded, hyphenated}
-use Rattle.rust_v0.specs.State.{State, Reading, say, is_hidden, ◌>>=◌}
+use Rattle.rust_v0.specs.State.{Reading, say, is_hidden, ◌>>=◌}
 
 -- a character
 abbrev pub say_char : ℕ → Reading
@@ -49,10 +49,10 @@ say_escaped quote c s =
     if c == byte "'" || c == byte "\"" then say_quote quote c s
     else (if c == byte "\\" then say (codes "\\\\") s
     else (if c == 0 then say (codes "\\0") s
-    else (if c == 9 then say (codes "\\t") s
-    else (if c == 10 then say (codes "\\n") s
-    else (if c == 13 then say (codes "\\r") s
-    else (if is_in_range 32 126 c then say_char c s
+    else (if c == byte "\t" then say (codes "\\t") s
+    else (if c == byte "\n" then say (codes "\\n") s
+    else (if c == byte "\r" then say (codes "\\r") s
+    else (if is_in_range (byte " ") (byte "~") c then say_char c s
     else say_chars (escape_unicode c) s))))))
 
 -- characters as they stand in a string

@@ -10,7 +10,9 @@ mod printer;
 mod reading;
 mod stop;
 
-pub use crate::laws::{names_without_text, worked_name};
+pub use crate::laws::{
+    bounded_text, hidden_adds_nothing, names_without_text, read_onward, within_limits, worked_name,
+};
 pub use crate::name::demangle_v0;
 
 #[cfg(test)]

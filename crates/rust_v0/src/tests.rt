@@ -258,6 +258,19 @@ const NONE: [&str; 30] = [
     "_RINvC1a1fFG_DNtC1b1TEL1_EuE",
 ];
 
+// A plain name, one with Punycode, one with a string.
+const GROWTHS: [(&str, &str); 3] = [
+    (
+        "_RINvC1a1fbceuaslxnihE.cold",
+        "a::f::<bool, char, str, (), i8, i16, i32, i64, i128, isize, u8>.cold",
+    ),
+    ("_RNvC1au9gre_6ka8i", "a::größe"),
+    (
+        "_RINvC1a1fKRe27225c0a00c3bc_E",
+        "a::f::<\"'\\\"\\\\\\n\\0\\u{fc}\">",
+    ),
+];
+
 /// 0 where a name has that text, 1 where it has another one, 2 where it has none, 3 where memory was
 /// refused.
 fn compared(alloc: Global, name: &str, text: &str) -> u8 {
@@ -265,6 +278,14 @@ fn compared(alloc: Global, name: &str, text: &str) -> u8 {
         Ok(Some(found)) => u8::from(found.as_str() != text),
         Ok(None) => 2,
         Err(_) => 3,
+    }
+}
+
+/// The same, once more where memory was refused; and whether it was.
+fn compared_again(alloc: Global, name: &str, text: &str) -> (u8, bool) {
+    match compared(alloc, name, text) {
+        3 => (compared(alloc, name, text), true),
+        code => (code, false),
     }
 }
 
@@ -335,5 +356,24 @@ fn a_reference_names_any_place_before_it(rt: HostRuntime) {
 fn damaged_names_have_none(rt: HostRuntime) {
     for name in NONE {
         assert_eq!(rt; compared(rt.alloc(), name, ""), 2, "{name}");
+    }
+}
+
+// Each growth is refused in turn by `tools/refuse_growths`.
+#[test]
+fn a_refused_growth_gives_no_text(rt: HostRuntime) {
+    let mut refused = 0u32;
+    for (name, text) in GROWTHS {
+        let (code, was_refused) = compared_again(rt.alloc(), name, text);
+        assert_eq!(rt; code, 0, "{name}");
+        refused = refused.wrapping_add(u32::from(was_refused));
+    }
+    assert!(rt; refused <= 1);
+}
+
+#[test]
+fn each_growth_of_a_text_is_granted(rt: HostRuntime) {
+    for (name, text) in GROWTHS {
+        assert_eq!(rt; compared(rt.alloc(), name, text), 0, "{name}");
     }
 }

@@ -1,4 +1,4 @@
-use Rattle.std.proofs.Common.{◌≡◌, drop}
+use Rattle.std.proofs.Common.{◌≡◌}
 use Rattle.std.specs.Char.Escape.{escape_unicode}
 use Rattle.std.specs.Char.Iter.{escape_rest}
 use Rattle.rust_v0.specs.State.{state_of}

@@ -1,5 +1,5 @@
 -- Numbers of v0 names, and the digits that they are spelled by.
--- Source: Rust RFC 2603. Own: each number has at most 64 bits.
+-- Source: Rust RFC 2603. Own: each number but that of a constant has at most 64 bits.
 use Rattle.std.specs.Prelude.{ℕ, ◌+◌, ◌-◌, ◌*◌, ◌^◌, ◌==◌, ◌||◌, Bool, List, [], ◌∷◌, length, take, drop, nat_lt, if◌then◌else◌, Option, Some, None, option_map, option_and_then}
 use Rattle.std.specs.Char.{is_ascii_digit, is_ascii_lowercase, is_ascii_uppercase, is_ascii_alphanumeric}
 use Rattle.std.specs.Int.{is_in_range}

@@ -99,8 +99,8 @@ TextGrows =
     (levels : ℕ) (production : Production) (s r : State)
     → reads levels production s ≡ Some r → take (length s.text) r.text ≡ s.text
 
--- so a name is read with 65,536 productions at most, and the text of its path has at most
--- 1,000,000 bytes
+-- so a name is read with one production at least and 65,536 at most (of as many, those that are left
+-- are fewer), and what its path shows and the room that is left are 1,000,000 bytes
 abbrev pub NameWithinLimits : Type 0
 NameWithinLimits =
     (spelled : List ℕ) (r : State)

@@ -192,8 +192,8 @@ fn demangle_spelled(alloc: Global, spelled: &[u8]) -> Result<Option<String>, All
 /// numbers of crates, and the suffix. What LLVM appends after `.llvm.` is no part of the name. A
 /// name has no text where anything in it is no production of the grammar, also at a place that a
 /// reference names, or where a limit is passed: 500 levels of productions inside one another,
-/// 65,536 productions, 1,000,000 bytes of text. A path that isn't shown is read, and its references
-/// are not followed.
+/// 65,536 productions, 1,000,000 bytes of text of the path. A path that isn't shown is read, its
+/// references are not followed, and its lifetimes need no binder.
 ///
 /// Refused `AllocError` where a growth was refused. Takes no memory where the name doesn't begin
 /// as a v0 name.

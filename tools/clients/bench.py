@@ -58,6 +58,16 @@ class Bench:
     def at(self, name):
         return os.path.join(self.folder, name)
 
+    def asked_of_llvm(self, place):
+        """The frames that LLVM's program has for the address of a place, by its debug file; None without one."""
+        modules = self.modules
+        file = place.module if modules.has_debug(place.module) else modules.debug_file_of(place.module)
+        if not file:
+            return None
+        words = [self.starts[LLVM], "-f", "-i", "-e", file, place.name]
+        lines = subprocess.run(words, capture_output=True, text=True).stdout.splitlines()
+        return place._replace(frames=list(zip(lines[::2], lines[1::2])))
+
     def write(self, name, text, mode=0o644):
         with open(self.at(name), "w") as file:
             file.write(text)

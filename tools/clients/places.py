@@ -8,14 +8,26 @@ import re
 import subprocess
 
 SPELLING, DISCRIMINATOR, NOT_KNOWN, NAMES = "paths", "discriminators", "not known", "C++ names"
-DEBUG_FILE, INLINED, ALIAS, ALONE, WAITS = (
+DEBUG_FILE, INLINED, SYMBOL, ALIAS, ALONE, WAITS = (
     "debug files",
     "inlined calls",
+    "symbols",
     "aliases",
     "alone",
     "waits",
 )
-CLASSES = (SPELLING, DISCRIMINATOR, NOT_KNOWN, NAMES, DEBUG_FILE, INLINED, ALIAS, ALONE, WAITS)
+CLASSES = (
+    SPELLING,
+    DISCRIMINATOR,
+    NOT_KNOWN,
+    NAMES,
+    DEBUG_FILE,
+    INLINED,
+    SYMBOL,
+    ALIAS,
+    ALONE,
+    WAITS,
+)
 
 # An address and its frames, each a function and a location; in_order is False where the client
 # doesn't tell which frame called which.
@@ -86,6 +98,11 @@ def unknown(frame):
     return frame[0], "??:0" if re.search(r"^(:0|)$|:[?0]$", frame[1]) else frame[1]
 
 
+def without_clone(frame):
+    """A symbol's name without the mark of a copy that the compiler made of a function."""
+    return re.sub(r"(\.(part|constprop|isra|cold|lto_priv)(\.\d+)?)+$", "", frame[0]), frame[1]
+
+
 class Names:
     """The last part of a C++ name as c++filt writes it, without parameters and templates."""
 
@@ -114,6 +131,7 @@ STEPS = (
     (SPELLING, spelled),
     (DISCRIMINATOR, without_discriminator),
     (NOT_KNOWN, unknown),
+    (SYMBOL, without_clone),
     (NAMES, Names()),
 )
 
@@ -142,6 +160,20 @@ def ends_alike(one, other):
     return one.endswith("/" + other) or other.endswith("/" + one)
 
 
+def has_symbol_elsewhere(here, there, a, b):
+    """Whether inlined calls have the name of the symbol there, which the function itself has here."""
+    symbol = here.frames[-1][0] if here.frames else None
+    return (
+        len(a) == len(b) > 1
+        and a[-1] == b[-1]
+        and all(one[1] == other[1] or ends_alike(one[1], other[1]) for one, other in zip(a, b))
+        and all(
+            one[0] == other[0] or frame[0] == symbol
+            for one, other, frame in zip(a[:-1], b[:-1], there.frames)
+        )
+    )
+
+
 def classes_of(modules, here, there):
     """The classes that two places differ by: none where they are equal, None where none says it."""
     if here.frames == there.frames:
@@ -160,6 +192,8 @@ def classes_of(modules, here, there):
         and all(at == "??:0" for _, at in a)
     ):
         return [DEBUG_FILE]
+    if has_symbol_elsewhere(here, there, a, b):
+        return [SYMBOL]
     if len(a) != len(b):
         if len(b) < len(a) and {at for _, at in b} <= {at for _, at in a}:
             return [INLINED]

@@ -85,8 +85,8 @@ typedef uint32_t addr2line_status;
  * An open file: one pointer, which is NULL where it is closed. It must be ADDR2LINE_INIT before its first
  * use, and it may be moved, but not copied: of two copies one call spoils the other.
  *
- * It has two names. C++ has one tag for both, since two would be two types where files are linked with -flto,
- * and where addr2line.hpp is included addr2line is the name of its namespace.
+ * It has two names. C++ has one tag for both, since two would be two types where files are linked with -flto.
+ * With addr2line.hpp, which defines ADDR2LINE_IS_NAMESPACE, addr2line is the name of a namespace instead.
  */
 #ifdef __cplusplus
 typedef struct addr2line_handle {

@@ -15,7 +15,7 @@
 #define ADDR2LINE_HPP
 
 #if defined(ADDR2LINE_H) && !defined(ADDR2LINE_IS_NAMESPACE)
-#error "include addr2line.hpp before addr2line.h: in C++ one name can't be a type and a namespace"
+#error "include addr2line.hpp before addr2line.h, or define ADDR2LINE_IS_NAMESPACE: one name can't be a type and a namespace"
 #endif
 #ifndef ADDR2LINE_IS_NAMESPACE
 #define ADDR2LINE_IS_NAMESPACE 1

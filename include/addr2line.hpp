@@ -410,13 +410,16 @@ public:
         return answer;
     }
 
-    /* The same into an answer that is there, whose buffers are used again: its former frames are gone. */
+    /*
+     * The same into an answer that is there, whose buffers are used again: its former frames are gone. Where it
+     * has room, and this Context found as many frames before, only the library may take memory.
+     */
     void find_frames(std::uint64_t address, Frames &answer, std::error_code &error,
                      Demangle demangle = Demangle::no) noexcept
     {
         answer.count_ = 0;
         std::size_t count = first_frames;
-        std::size_t needed = text_size_;
+        std::size_t needed = answer.text_.size() != 0 ? answer.text_.size() : text_size_;
         addr2line_status status = ADDR2LINE_TOO_SMALL;
         while (status == ADDR2LINE_TOO_SMALL) {
             if (!frames_.grow(count) || !answer.text_.grow(needed)) {

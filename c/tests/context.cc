@@ -233,9 +233,15 @@ void refused_memory(const std::string &path)
     is_refused = true;
     const bool none = context.frames(inlined, error).empty();
     const std::error_code of_frames = error;
-    const bool nowhere = !context.location(inlined, error);
+    const bool nowhere = !context.location(inlined, error) && error == Status::out_of_memory;
     is_refused = false;
-    CHECK(none && of_frames == Status::out_of_memory && nowhere && error == Status::out_of_memory);
+    Frames used = context.frames(inlined);
+    is_refused = true;
+    context.find_frames(inlined, used, error);
+    const std::error_code of_used = error;
+    is_refused = false;
+    CHECK(!of_used && text_of(used) == four_frames);
+    CHECK(none && of_frames == Status::out_of_memory && nowhere);
     CHECK(text_of(context.frames(inlined)) == four_frames && context.location(inlined));
 }
 

@@ -84,10 +84,23 @@ typedef uint32_t addr2line_status;
 /*
  * An open file: one pointer, which is NULL where it is closed. It must be ADDR2LINE_INIT before its first
  * use, and it may be moved, but not copied: of two copies one call spoils the other.
+ *
+ * It has two names. C++ has one tag for both, since two would be two types where files are linked with -flto.
+ * With addr2line.hpp, which defines ADDR2LINE_IS_NAMESPACE, addr2line is the name of a namespace instead.
  */
+#ifdef __cplusplus
+typedef struct addr2line_handle {
+    void *at;
+} addr2line_handle;
+#ifndef ADDR2LINE_IS_NAMESPACE
+typedef addr2line_handle addr2line;
+#endif
+#else
 typedef struct addr2line {
     void *at;
 } addr2line;
+typedef addr2line addr2line_handle;
+#endif
 
 #define ADDR2LINE_INIT { NULL }
 
@@ -170,13 +183,13 @@ addr2line_status addr2line_status_text(addr2line_status status, char *text, size
  * need them, once.
  */
 addr2line_status addr2line_open(const void *bytes, size_t size, const void *sup, size_t sup_size,
-                                addr2line *handle);
+                                addr2line_handle *handle);
 
 /*
  * Closes a handle: all its memory is given back, and the bytes of its files may go. A closed one stays
  * so.
  */
-void addr2line_close(addr2line *handle);
+void addr2line_close(addr2line_handle *handle);
 
 /*
  * The location of an address. ADDR2LINE_NOTHING where the file has none.
@@ -185,8 +198,9 @@ void addr2line_close(addr2line *handle);
  * lookup. Takes memory where lines are read that weren't before; may then be refused
  * ADDR2LINE_OUT_OF_MEMORY.
  */
-addr2line_status addr2line_find_location(addr2line *handle, uint64_t address, addr2line_location *location,
-                                         char *text, size_t text_size, size_t *needed);
+addr2line_status addr2line_find_location(addr2line_handle *handle, uint64_t address,
+                                         addr2line_location *location, char *text, size_t text_size,
+                                         size_t *needed);
 
 /* Names as they stand in the source, for Rust before its version 0 of mangling; takes memory for each. */
 #define ADDR2LINE_DEMANGLE 1u
@@ -204,7 +218,7 @@ addr2line_status addr2line_find_location(addr2line *handle, uint64_t address, ad
  * read that wasn't before, where names are demangled, and where more than 16 functions are inlined at
  * the address.
  */
-addr2line_status addr2line_find_frames(addr2line *handle, uint64_t address, uint32_t flags,
+addr2line_status addr2line_find_frames(addr2line_handle *handle, uint64_t address, uint32_t flags,
                                        addr2line_frame *frames, size_t capacity, size_t *count,
                                        char *text, size_t text_size, size_t *needed);
 
@@ -212,7 +226,7 @@ addr2line_status addr2line_find_frames(addr2line *handle, uint64_t address, uint
  * The first load, by token, that was asked for and neither answered nor forgotten since;
  * ADDR2LINE_NOTHING where there is none. Takes no memory.
  */
-addr2line_status addr2line_get_load(addr2line *handle, addr2line_load *load,
+addr2line_status addr2line_get_load(addr2line_handle *handle, addr2line_load *load,
                                     char *text, size_t text_size, size_t *needed);
 
 /*
@@ -225,19 +239,19 @@ addr2line_status addr2line_get_load(addr2line *handle, addr2line_load *load,
  * Refused ADDR2LINE_UNKNOWN_TOKEN where there is no such load; ADDR2LINE_OUT_OF_MEMORY leaves it
  * waiting.
  */
-addr2line_status addr2line_answer_load(addr2line *handle, uint64_t token, const void *bytes, size_t size);
+addr2line_status addr2line_answer_load(addr2line_handle *handle, uint64_t token, const void *bytes, size_t size);
 
 /*
  * Takes the answer to a load back: the next lookup that needs it asks again. Refused
  * ADDR2LINE_UNKNOWN_TOKEN where there is no such load. Takes no memory.
  */
-addr2line_status addr2line_forget(addr2line *handle, uint64_t token);
+addr2line_status addr2line_forget(addr2line_handle *handle, uint64_t token);
 
 /*
  * Asks for the split files of an address before a lookup does: ADDR2LINE_WAITS where there are some, which
  * addr2line_get_load tells one by one.
  */
-addr2line_status addr2line_preload(addr2line *handle, uint64_t address);
+addr2line_status addr2line_preload(addr2line_handle *handle, uint64_t address);
 
 /*
  * Reads the lines and functions of all units. Where it gives ADDR2LINE_OK, later lookups take no
@@ -248,7 +262,7 @@ addr2line_status addr2line_preload(addr2line *handle, uint64_t address);
  * Lines are read up to the first unit whose lines are refused, and functions up to the first whose
  * functions are. The refusal of lines is told first.
  */
-addr2line_status addr2line_parse_all(addr2line *handle);
+addr2line_status addr2line_parse_all(addr2line_handle *handle);
 
 /*
  * The rows of line information that the addresses from `low` up to `high` meet: unit range after unit
@@ -263,7 +277,7 @@ addr2line_status addr2line_parse_all(addr2line *handle);
  * Takes memory where lines are read that weren't before; may then be refused ADDR2LINE_OUT_OF_MEMORY,
  * and for nothing else.
  */
-addr2line_status addr2line_locations(addr2line *handle, uint64_t low, uint64_t high, uint64_t first,
+addr2line_status addr2line_locations(addr2line_handle *handle, uint64_t low, uint64_t high, uint64_t first,
                                      addr2line_span *spans, size_t capacity, size_t *count,
                                      char *text, size_t text_size, size_t *needed);
 
@@ -271,14 +285,14 @@ addr2line_status addr2line_locations(addr2line *handle, uint64_t low, uint64_t h
  * The symbol at or nearest below an address, if its size allows: of a function, an object or of no type,
  * with a name in UTF-8. ADDR2LINE_NOTHING where there is none. Takes no memory.
  */
-addr2line_status addr2line_find_symbol(addr2line *handle, uint64_t address, addr2line_symbol *symbol,
+addr2line_status addr2line_find_symbol(addr2line_handle *handle, uint64_t address, addr2line_symbol *symbol,
                                        char *text, size_t text_size, size_t *needed);
 
 /*
  * The addresses of the first section of a name, up to `end`. ADDR2LINE_NOTHING where there is none, or it
  * ends past 2^64 - 1; nothing is promised of `begin` and `end` then. Takes no memory.
  */
-addr2line_status addr2line_section_range(addr2line *handle, const void *name, size_t name_size,
+addr2line_status addr2line_section_range(addr2line_handle *handle, const void *name, size_t name_size,
                                          uint64_t *begin, uint64_t *end);
 
 #ifdef __cplusplus

@@ -16,7 +16,7 @@ struct addr2line_mapped;
 
 /* An open file, with what is mapped for it. It must be ADDR2LINE_FILE_INIT before its first use. */
 typedef struct addr2line_file {
-    addr2line handle; /* for the calls of addr2line.h that aren't here */
+    addr2line_handle handle; /* for the calls of addr2line.h that aren't here */
     struct addr2line_mapped *mapped;
 } addr2line_file;
 

@@ -5,33 +5,72 @@
         for frame in f.frames(0x1234):
             print(frame.function, frame.file, frame.line, frame.column)
 
-The library is looked for beside this file, then where the system looks; the environment variable
-ADDR2LINE_LIBRARY names another. A file is used by one call at a time, on the thread that opened it.
+The library is looked for in this package's folder and beside it, then where the system looks; the environment variable
+ADDR2LINE_LIBRARY names another. A file is used by one call at a time, on the thread that opened it. It is closed by
+`with`, by `close`, or when nothing holds it; what it gave stays.
 """
-import collections
+from __future__ import annotations
+
 import ctypes
 import ctypes.util
 import errno
+import glob
 import mmap
 import os
 import stat
+import threading
+import warnings
+from types import TracebackType
+from typing import Any, Iterator, List, NamedTuple, Optional, Type, Union
 
 OK, TOO_SMALL, WAITS, NOTHING, CLOSED, OTHER_UNIT, OUT_OF_MEMORY = 0, 1, 2, 3, 4, 5, 16
 NOT_ELF = 18
 DEMANGLE, DEMANGLE_RUST = 1, 2
+# A path, as Python's own calls take it.
+_Path = Union[str, bytes, "os.PathLike[Any]"]
 # The flags of a lookup by what its argument `demangle` is.
 _STYLES = {False: 0, True: DEMANGLE, "rust": DEMANGLE_RUST}
 
-Location = collections.namedtuple("Location", "file line column")
-Frame = collections.namedtuple("Frame", "function file line column entry")
-Span = collections.namedtuple("Span", "address length file line column")
-Symbol = collections.namedtuple("Symbol", "address name")
+
+class Location(NamedTuple):
+    """A location in a source file; lines and columns count from 1, and column 0 is the left edge."""
+
+    file: Optional[str]
+    line: Optional[int]
+    column: Optional[int]
+
+
+class Frame(NamedTuple):
+    """A function at an address with its location there, or a location without a function."""
+
+    function: Optional[str]
+    file: Optional[str]
+    line: Optional[int]
+    column: Optional[int]
+    entry: Optional[int]
+
+
+class Span(NamedTuple):
+    """A row of line information, with how many addresses it describes."""
+
+    address: int
+    length: int
+    file: Optional[str]
+    line: Optional[int]
+    column: Optional[int]
+
+
+class Symbol(NamedTuple):
+    """A symbol, with the address at which it begins."""
+
+    address: int
+    name: Optional[str]
 
 
 class Refused(Exception):
     """A refusal, with its number in `status`."""
 
-    def __init__(self, status):
+    def __init__(self, status: int) -> None:
         super().__init__(status_text(status))
         self.status = status
 
@@ -77,12 +116,21 @@ class _Load(ctypes.Structure):
     _fields_ = [("token", ctypes.c_uint64), ("dwo_id", ctypes.c_uint64), ("directory", _Text), ("path", _Text)]
 
 
-def _load_library():
-    beside = os.path.join(os.path.dirname(os.path.abspath(__file__)), "libaddr2line.so")
+def _library_name() -> str:
     name = os.environ.get("ADDR2LINE_LIBRARY")
-    if name is None:
-        name = beside if os.path.exists(beside) else ctypes.util.find_library("addr2line") or "libaddr2line.so"
-    library = ctypes.CDLL(name)
+    if name is not None:
+        return name
+    package = os.path.dirname(os.path.abspath(__file__))
+    for folder in (package, os.path.dirname(package)):
+        # Of a name without a number and those with one the first is without.
+        found = sorted(glob.glob(os.path.join(glob.escape(folder), "libaddr2line.so*")))
+        if found:
+            return found[0]
+    return ctypes.util.find_library("addr2line") or "libaddr2line.so"
+
+
+def _load_library() -> ctypes.CDLL:
+    library = ctypes.CDLL(_library_name())
     handle, size = ctypes.POINTER(_Handle), ctypes.c_size_t
     out = [ctypes.c_void_p, size, ctypes.POINTER(size)]
     address = ctypes.c_uint64
@@ -111,12 +159,12 @@ def _load_library():
 _library = _load_library()
 
 
-def version():
+def version() -> int:
     """The number of what may be called."""
-    return _library.addr2line_version()
+    return int(_library.addr2line_version())
 
 
-def status_text(status):
+def status_text(status: int) -> str:
     """What a status says."""
     text, needed = ctypes.create_string_buffer(80), ctypes.c_size_t()
     if _library.addr2line_status_text(status, text, len(text), ctypes.byref(needed)) != OK:
@@ -127,7 +175,7 @@ def status_text(status):
 class _Bytes:
     """Bytes that stay where they are until they are released."""
 
-    def __init__(self, path):
+    def __init__(self, path: _Path) -> None:
         # Opening a named pipe would wait for its writer, and debug information chooses the paths of split files.
         number = os.open(path, os.O_RDONLY | os.O_NONBLOCK | os.O_CLOEXEC)
         try:
@@ -142,7 +190,7 @@ class _Bytes:
         self.view = (ctypes.c_char * self.size).from_buffer(self.map) if self.size else None
         self.at = ctypes.addressof(self.view) if self.size else None
 
-    def release(self):
+    def release(self) -> None:
         self.view = None
         if self.map is not None:
             self.map.close()
@@ -151,15 +199,19 @@ class _Bytes:
 class File:
     """An open file."""
 
-    def __init__(self, path, sup=None):
+    def __init__(self, path: _Path, sup: Optional[_Path] = None) -> None:
+        self._path = path
+        self._thread = threading.get_ident()
         self._handle = _Handle(None)
-        self._bytes = [_Bytes(path)]
+        self._bytes: List[_Bytes] = []
+        self._bytes.append(_Bytes(path))
         if sup is not None:
             self._bytes.append(_Bytes(sup))
             if not self._bytes[-1].size:
                 self.close()
                 raise Refused(NOT_ELF)
-        main, more = self._bytes[0], self._bytes[-1] if sup is not None else None
+        main = self._bytes[0]
+        more = self._bytes[-1] if sup is not None else None
         self._text = ctypes.create_string_buffer(4096)
         self._frames = (_Frame * 32)()
         status = _library.addr2line_open(
@@ -169,49 +221,59 @@ class File:
             self.close()
             raise Refused(status)
 
-    def __enter__(self):
+    def __enter__(self) -> File:
         return self
 
-    def __exit__(self, *failure):
+    def __exit__(
+        self, kind: Optional[Type[BaseException]], failure: Optional[BaseException], trace: Optional[TracebackType]
+    ) -> None:
         self.close()
 
-    def close(self):
+    def __del__(self) -> None:
+        if getattr(self, "_handle", None) is None or not self._handle.at:
+            return
+        warnings.warn("unclosed file %r" % (self._path,), ResourceWarning, source=self)
+        # What collects it may run on any thread, and a handle stays on its own: then its memory stays taken.
+        if self._thread == threading.get_ident():
+            self.close()
+
+    def close(self) -> None:
         """Closes the file; from then on its calls are refused."""
         _library.addr2line_close(ctypes.byref(self._handle))
         for held in self._bytes:
             held.release()
         self._bytes = []
 
-    def _call(self, name, *arguments):
+    def _call(self, name: str, *arguments: Any) -> int:
         """A call with the text's buffer, which grows as is needed; the status."""
         needed = ctypes.c_size_t()
         call = getattr(_library, "addr2line_" + name)
         while True:
-            status = call(
+            status: int = call(
                 ctypes.byref(self._handle), *arguments, self._text, len(self._text), ctypes.byref(needed)
             )
             if status != TOO_SMALL or needed.value <= len(self._text):
                 return status
             self._text = ctypes.create_string_buffer(2 * needed.value)
 
-    def _text_of(self, part):
+    def _text_of(self, part: Any) -> Optional[str]:
         if not part.is_there:
             return None
         return ctypes.string_at(ctypes.addressof(self._text) + part.offset, part.length).decode("utf-8", "replace")
 
-    def _location(self, part):
+    def _location(self, part: Any) -> Location:
         return Location(
             self._text_of(part.file),
             part.line.value if part.line.is_there else None,
             part.column.value if part.column.is_there else None,
         )
 
-    def _frame(self, part):
+    def _frame(self, part: Any) -> Frame:
         return Frame(
             self._text_of(part.function), *self._location(part.location), part.entry.value if part.entry.is_there else None
         )
 
-    def location(self, address):
+    def location(self, address: int) -> Optional[Location]:
         """The location of an address, None where there is none."""
         found = _Location()
         status = self._call("find_location", address, ctypes.byref(found))
@@ -221,7 +283,7 @@ class File:
             raise Refused(status)
         return self._location(found)
 
-    def frames(self, address, demangle=False):
+    def frames(self, address: int, demangle: Union[bool, str] = False) -> List[Frame]:
         """The frames at an address, the innermost first; split files are read as they are asked for.
 
         `demangle` is whether legacy names of Rust stand as in the source, or "rust" for v0 names too.
@@ -240,20 +302,20 @@ class File:
             else:
                 raise Refused(status)
 
-    def preload(self, address):
+    def preload(self, address: int) -> bool:
         """Asks for the split files of an address; whether there are some, for answer_loads."""
         status = _library.addr2line_preload(ctypes.byref(self._handle), address)
         if status not in (OK, WAITS):
             raise Refused(status)
-        return status == WAITS
+        return bool(status == WAITS)
 
-    def forget(self, token):
+    def forget(self, token: int) -> None:
         """Takes the answer to a load back: what needs it next asks again. Tokens count from 0."""
         status = _library.addr2line_forget(ctypes.byref(self._handle), token)
         if status != OK:
             raise Refused(status)
 
-    def answer_loads(self):
+    def answer_loads(self) -> None:
         """Answers each load that waits by the file that it names, by none where there is none."""
         load = _Load()
         while self._call("get_load", ctypes.byref(load)) == OK:
@@ -264,7 +326,7 @@ class File:
             if status == OUT_OF_MEMORY:
                 raise Refused(status)
 
-    def _split_file(self, directory, path):
+    def _split_file(self, directory: Optional[str], path: Optional[str]) -> Optional[_Bytes]:
         if path is None:
             return None
         try:
@@ -274,14 +336,17 @@ class File:
         self._bytes.append(held)
         return held
 
-    def parse_all(self):
+    def parse_all(self) -> None:
         """Reads the lines and functions of all units."""
         status = _library.addr2line_parse_all(ctypes.byref(self._handle))
         if status != OK:
             raise Refused(status)
 
-    def locations(self, low, high):
-        """The rows that the addresses from low up to high meet; a fault is raised in its place."""
+    def locations(self, low: int, high: int) -> Iterator[Span]:
+        """The rows that the addresses from low up to high meet; a fault is raised in its place.
+
+        The walk holds the file, and where that is closed meanwhile the next row is refused.
+        """
         first, count, capacity = 0, ctypes.c_size_t(), 256
         while True:
             spans = (_Span * capacity)()
@@ -290,6 +355,8 @@ class File:
                 raise Refused(status)
             # The caller may make other calls between two rows, which use the same text.
             for span in [self._span(span) for span in spans[: count.value]]:
+                if not self._handle.at:
+                    raise Refused(CLOSED)
                 if isinstance(span, Refused):
                     raise span
                 yield span
@@ -298,12 +365,12 @@ class File:
             first += capacity
             capacity *= 2
 
-    def _span(self, part):
+    def _span(self, part: Any) -> Union[Span, Refused]:
         if part.status != OK:
             return Refused(part.status)
         return Span(part.address, part.length, *self._location(part.location))
 
-    def symbol(self, address):
+    def symbol(self, address: int) -> Optional[Symbol]:
         """The symbol of an address, None where there is none."""
         symbol = _Symbol()
         status = self._call("find_symbol", address, ctypes.byref(symbol))
@@ -313,7 +380,7 @@ class File:
             raise Refused(status)
         return Symbol(symbol.address, self._text_of(symbol.name))
 
-    def section(self, name):
+    def section(self, name: str) -> Optional[range]:
         """The addresses of a section, as a range; None where there is none."""
         begin, end = ctypes.c_uint64(), ctypes.c_uint64()
         encoded = name.encode()
@@ -327,6 +394,6 @@ class File:
         return range(begin.value, end.value)
 
 
-def open_file(path, sup=None):
+def open_file(path: _Path, sup: Optional[_Path] = None) -> File:
     """Opens the ELF file at a path, with its supplementary file if there is one."""
     return File(path, sup)

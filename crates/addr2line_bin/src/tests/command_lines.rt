@@ -1,5 +1,7 @@
 //! Worked command lines.
 
+ghost use Rattle.std.specs.Prelude.{◌≤◌};
+
 use crate::command_line::{Misuse, Request, WordFault, command_line};
 use crate::options::{Options, Probes};
 use addr2line::{CompressedSections, Style};
@@ -17,7 +19,9 @@ fn words_in(alloc: Global, line: &str) -> Result<Vec<String>, Fail> {
 }
 
 // 1 for legacy names, 2 for v0 names too.
-fn names_digit(names: Option<Style>) -> u32 {
+fn names_digit(names: Option<Style>) -> u32
+    ensures { result ≤ 2 }
+{
     match names {
         None => 0,
         Some(Style::Legacy) => 1,

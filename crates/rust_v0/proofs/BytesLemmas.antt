@@ -6,7 +6,9 @@ use Rattle.std.specs.List.{list_all, prefix_len}
 use Rattle.std.specs.Str.{byte}
 use Rattle.rust_v0.specs.Numbers.{after, counted, counted_after, fits, is_nibble, nibbles, number_62, value_62}
 use Rattle.rust_v0.specs.Identifiers.{as_identifier, digits_part, identifier_after, identifier_at, length_digits, split_word, word_at, without_underscore}
-use Rattle.rust_v0.specs.Leaves.{letter_at}
+use Rattle.rust_v0.specs.Leaves.{as_abi_word, letter_at}
+use Rattle.rust_v0.specs.Reads.{shape_at, shape_of}
+use Rattle.rust_v0.specs.State.{◌>>=◌}
 use Rattle.rust_v0.proofs.StateLemmas.{Rest, rest_all, rest_drop, rest_less, rest_step, rest_then}
 
 pub record Follows (k : ℕ) (bytes : List ℕ) (o : Option (List ℕ)) : Type 0 where
@@ -130,3 +132,10 @@ identifier_finds bytes = identifier_more (after (byte "u") bytes) bytes (after_f
 pub letter_finds : (bytes : List ℕ) → Finds 1 bytes (letter_at bytes)
 letter_finds [] = finds_none 1 []
 letter_finds (c ∷ bytes) = finds_if (is_ascii_alphabetic c) 1 (c ∷ bytes) _ None (record { passed = rest_step 0 c bytes bytes (rest_all bytes) }) (finds_none 1 (c ∷ bytes))
+
+pub abi_word_finds : (bytes : List ℕ) → Finds 1 bytes (word_at bytes >>= as_abi_word)
+abi_word_finds bytes = finds_then 1 bytes (word_at bytes) as_abi_word (word_finds bytes) (λ p h. finds_if (length p.0 == 0) 1 bytes None _ (finds_none 1 bytes) (record { passed = h }))
+
+pub shape_finds : (bytes : List ℕ) → Finds 1 bytes (shape_at bytes)
+shape_finds [] = finds_none 1 []
+shape_finds (c ∷ bytes) = finds_map 1 (c ∷ bytes) bytes (shape_of c) (λ x. x) (rest_step 0 c bytes bytes (rest_all bytes))

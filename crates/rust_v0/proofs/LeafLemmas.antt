@@ -8,9 +8,9 @@ use Rattle.rust_v0.specs.Numbers.{after, counted, nibbles, number_62}
 use Rattle.rust_v0.specs.Identifiers.{decoded, hyphenated, identifier_at, word_at}
 use Rattle.rust_v0.specs.State.{State, Reading, taken, ◌>>=◌}
 use Rattle.rust_v0.specs.Shown.{punycode_shown, say_chars, say_escaped, say_identifier, say_punycode, say_quote, say_quoted}
-use Rattle.rust_v0.specs.Leaves.{abi, abi_name, abi_word, after_or, as_scalar, bind, binder, boolean, character, counted_in, hex_digits, identifier, if_next, integer, leaf_reading, letter, letter_at, literal, more_levels, number, object_lifetime, reference_lifetime, root, say_level, say_lifetime, say_named, say_spaced, scalar, segment, sign, string, unsafety}
+use Rattle.rust_v0.specs.Leaves.{abi, abi_name, abi_word, after_or, as_abi_word, as_scalar, bind, binder, boolean, character, counted_in, digit_pairs, hex_digits, identifier, if_next, index_after, integer, leaf_reading, letter, letter_at, lifetime_index, literal, more_levels, number, object_lifetime, reference_lifetime, root, say_abi_word, say_level, say_lifetime, say_named, say_spaced, scalar, segment, sign, string, unsafety}
 use Rattle.rust_v0.proofs.StateLemmas.{Advances, AdvancesWith, Passed, Rest, from_advances, if_advances, none_advances, passed_bytes, passed_same, passed_then, rest_less, say_advances, some_advances, then_advances, with_advances}
-use Rattle.rust_v0.proofs.BytesLemmas.{Finds, Follows, after_follows, counted_finds, finds_less, identifier_finds, letter_finds, nibbles_find, number_finds, word_finds}
+use Rattle.rust_v0.proofs.BytesLemmas.{Finds, Follows, abi_word_finds, after_follows, counted_finds, finds_less, identifier_finds, letter_finds, nibbles_find, number_finds}
 
 -- a reading that counts nothing
 pub then_leaf : (s : State) (o : Option State) (f : Reading) → Advances true 0 s o → ((r : State) → Advances true 0 r (f r)) → Advances true 0 s (option_and_then f o)
@@ -19,6 +19,11 @@ then_leaf s o f h g = then_advances true true 0 0 s o f h g
 pub with_leaf : {A : Type 0} (s : State) (o : Option (A × State)) (f : A × State → Option State) → AdvancesWith true 0 s o
     → ((p : A × State) → Advances true 0 p.1 (f p)) → Advances true 0 s (option_and_then f o)
 with_leaf s o f h g = with_advances true true 0 0 s o f h g
+
+-- a value, and what is read with it
+pub found_leaf : {A : Type 0} (s : State) (o : Option A) (f : A → Option State) → ((a : A) → Advances true 0 s (f a)) → Advances true 0 s (option_and_then f o)
+found_leaf s None f h = none_advances true 0 s
+found_leaf s (Some a) f h = h a
 
 pub if_leaf : (s : State) (q : Bool) (x y : Option State) → Advances true 0 s x → Advances true 0 s y → Advances true 0 s (if q then x else y)
 if_leaf s q x y h g = if_advances true 0 s q x y h g
@@ -34,6 +39,11 @@ bound_leaf s n = some_advances true 0 s _ (passed_same s _ refl refl refl refl r
 
 pub open_leaf : (s : State) (b : Bool) → Advances true 0 s (Some (record s { is_open = b }))
 open_leaf s b = some_advances true 0 s _ (passed_same s _ refl refl refl refl refl refl)
+
+-- one value after another
+with_more : {A : Type 0} (s r : State) (o : Option (A × State)) → Passed true 0 s r → AdvancesWith true 0 r o → AdvancesWith true 0 s o
+with_more s r None h g = record { passed = tt }
+with_more s r (Some p) h g = record { passed = passed_then true true 0 0 s r p.1 h g.passed }
 
 -- ---- bytes of a state
 
@@ -59,8 +69,8 @@ identifier_leaf s = taken_leaf s (identifier_at s.bytes) (identifier_finds s.byt
 pub letter_leaf : (s : State) → AdvancesWith true 0 s (letter s)
 letter_leaf s = taken_leaf s (letter_at s.bytes) (letter_finds s.bytes)
 
-pub word_leaf : (s : State) → AdvancesWith true 0 s (taken s (word_at s.bytes))
-word_leaf s = taken_leaf s (word_at s.bytes) (word_finds s.bytes)
+pub word_leaf : (s : State) → AdvancesWith true 0 s (abi_word s)
+word_leaf s = taken_leaf s (word_at s.bytes >>= as_abi_word) (abi_word_finds s.bytes)
 
 pub digits_leaf : (s : State) → AdvancesWith true 0 s (hex_digits s)
 digits_leaf s = taken_leaf s (nibbles s.bytes) (nibbles_find s.bytes)
@@ -132,9 +142,18 @@ reference_lifetime_leaf : (s : State) → Advances true 0 s (reference_lifetime 
 unfolding reference_lifetime
 reference_lifetime_leaf s = search (leaf_rules, lifetime_leaf) depth 24
 
+index_as : (s : State) (o : Option (List ℕ)) → Follows 1 s.bytes o → AdvancesWith true 0 s (index_after s o)
+index_as s None h = record { passed = tt }
+index_as s (Some rest) h =
+    with_more s (record s { bytes = rest }) _ (passed_bytes 0 s rest (rest_less 1 0 s.bytes rest (omega arith) h.passed)) (number_leaf (record s { bytes = rest }))
+
+index_leaf : (s : State) → AdvancesWith true 0 s (lifetime_index s)
+unfolding lifetime_index
+index_leaf s = index_as s (after (byte "L") s.bytes) (after_follows (byte "L") s.bytes)
+
 object_lifetime_leaf : (s : State) → Advances true 0 s (object_lifetime s)
 unfolding object_lifetime
-object_lifetime_leaf s = search (leaf_rules, lifetime_leaf) depth 24
+object_lifetime_leaf s = search (leaf_rules, index_leaf, lifetime_leaf) depth 24
 
 -- ---- names
 
@@ -157,17 +176,12 @@ root_advances s = with_advances true true 0 1 s _ _ (counted_leaf (byte "s") s) 
 -- ---- functions and literals
 
 abi_leaf : (s : State) → Advances true 0 s (abi s)
-unfolding abi abi_name abi_word
+unfolding abi abi_name say_abi_word
 abi_leaf s = search leaf_rules depth 24
 
 integer_leaf : (s : State) → Advances true 0 s (integer s)
 unfolding integer
 integer_leaf s = search leaf_rules depth 24
-
--- one value after another
-with_more : {A : Type 0} (s r : State) (o : Option (A × State)) → Passed true 0 s r → AdvancesWith true 0 r o → AdvancesWith true 0 s o
-with_more s r None h g = record { passed = tt }
-with_more s r (Some p) h g = record { passed = passed_then true true 0 0 s r p.1 h g.passed }
 
 with_with : {A B : Type 0} (s : State) (o : Option (A × State)) (f : A × State → Option (B × State)) → AdvancesWith true 0 s o
     → ((p : A × State) → AdvancesWith true 0 p.1 (f p)) → AdvancesWith true 0 s (option_and_then f o)
@@ -184,7 +198,7 @@ literal_leaf s = with_with s _ _ (digits_leaf s) (λ p. literal_as p _ _)
 
 boolean_leaf : (s : State) → Advances true 0 s (boolean s)
 unfolding boolean
-boolean_leaf s = search (leaf_rules, literal_leaf) depth 24
+boolean_leaf s = with_leaf s _ _ (literal_leaf s) (λ n. found_leaf n.1 _ _ (λ text. say_advances text n.1))
 
 scalar_as : {A : Type 0} (s : State) (o : Option A) → AdvancesWith true 0 s (option_map (λ c. (c, s)) o)
 scalar_as s None = record { passed = tt }
@@ -206,9 +220,17 @@ unsafety_leaf : (s : State) → Advances true 0 s (unsafety s)
 unfolding unsafety
 unsafety_leaf s = search leaf_rules depth 24
 
+pairs_as : (p : List ℕ × State) (q : Bool) → AdvancesWith true 0 p.1 (if q then None else Some p)
+pairs_as p true = record { passed = tt }
+pairs_as p false = record { passed = passed_same p.1 p.1 refl refl refl refl refl refl }
+
+pairs_leaf : (s : State) → AdvancesWith true 0 s (digit_pairs s)
+unfolding digit_pairs
+pairs_leaf s = with_with s _ _ (digits_leaf s) (λ p. pairs_as p _)
+
 string_leaf : (s : State) → Advances true 0 s (string s)
 unfolding string
-string_leaf s = search leaf_rules depth 24
+string_leaf s = search (leaf_rules, pairs_leaf) depth 24
 
 -- how many bytes a leaf has at least
 abbrev pub leaf_weight : Leaf → ℕ

@@ -9,6 +9,7 @@ pub mod BytesLemmas
 pub mod LeafLemmas
 pub mod PartLemmas
 pub mod OnwardLemmas
+pub mod AloneLemmas
 pub mod NameLawProofs
 pub mod ReadLawProofs
 pub mod TextLawProofs

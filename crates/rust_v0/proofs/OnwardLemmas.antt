@@ -1,21 +1,23 @@
 -- Readings of productions go on, and count no more productions than the bytes that they pass over.
 use Rattle.std.proofs.Common.{◌≡◌, ◌≤◌, ◌<◌, ◌+◌, ◌-◌, ℕ, zero, suc, Bool, true, false, List, [], ◌∷◌, drop, length, refl, arith}
-use Rattle.std.specs.Prelude.{◌==◌, ◌||◌, if◌then◌else◌, Option, Some, None, option_map, option_and_then, IfSome, codes}
+use Rattle.std.specs.Prelude.{◌==◌, ◌||◌, if◌then◌else◌, nat_lt, Option, Some, None, option_map, option_and_then, IfSome, codes}
 use Rattle.std.specs.Str.{byte}
 use Rattle.std.proofs.lemmas.Bool.Decides.{nat_tests}
 use Rattle.rust_v0.specs.declared.grammar.Production.{Production}
 use Rattle.rust_v0.specs.declared.grammar.Production.TheVariants.{TypePath, TraitPath, AnyType, BracedConstant, BareConstant, Pattern}
 use Rattle.rust_v0.specs.declared.grammar.Item.{Item}
 use Rattle.rust_v0.specs.declared.grammar.Item.TheVariants.{Argument, TypeItem, ConstantItem, Field, Trait, PatternItem}
+use Rattle.rust_v0.specs.declared.reading.Shape.{Shape}
+use Rattle.rust_v0.specs.declared.reading.Shape.TheVariants.{Unit, Tuple, Named}
 use Rattle.rust_v0.specs.declared.printer.Mode.TheVariants.{Hidden}
 use Rattle.rust_v0.specs.Numbers.{after, number_62}
 use Rattle.rust_v0.specs.State.{State, Reading, say, is_hidden, taken, ◌>>=◌}
 use Rattle.rust_v0.specs.Leaves.{if_next, nothing, number}
 use Rattle.rust_v0.specs.Grammar.{Part, shown, single, inside, nested, place, reference, list, more, tuple, traits, contents, returned, head}
-use Rattle.rust_v0.specs.Reads.{Inner, argument, back_reference, before_binding, binding_name, bindings, bindings_on, bound_traits, bounded_trait, close, field, field_name, function_result, hidden, impl_place, item_reading, items, lifetime_argument, more_from, more_items, nested_path, part_reading, parts_reading, reads, rule, tagged_parts, value, variant_contents, with_bytes, with_mode}
+use Rattle.rust_v0.specs.Reads.{Inner, argument, back_reference, before_binding, binding_name, bindings, bindings_on, bound_traits, bounded_trait, close, contents_of, field, field_name, function_result, hidden, if_before, impl_place, item_reading, items, lifetime_argument, more_from, more_items, nested_path, part_reading, parts_reading, place_before, reads, rule, shape_at, splat, tagged_parts, value, variant_contents, with_bytes, with_mode}
 use Rattle.rust_v0.proofs.StateLemmas.{Advances, AdvancesWith, Passed, Rest, from_advances, none_advances, none_in_rest, passed_bytes, passed_same, passed_then, rest_all, rest_less, rest_then, say_advances, some_advances, then_advances, with_advances}
-use Rattle.rust_v0.proofs.BytesLemmas.{Follows, after_follows, number_finds}
-use Rattle.rust_v0.proofs.LeafLemmas.{binder_leaf, counted_leaf, leaf_advances, leaf_rules, letter_leaf, lifetime_argument_leaf, next_leaf, same_leaf, segment_leaf, taken_advances, then_leaf, with_leaf}
+use Rattle.rust_v0.proofs.BytesLemmas.{Follows, after_follows, number_finds, shape_finds}
+use Rattle.rust_v0.proofs.LeafLemmas.{binder_leaf, counted_leaf, leaf_advances, leaf_rules, letter_leaf, lifetime_argument_leaf, next_leaf, same_leaf, segment_leaf, taken_advances, taken_leaf, then_leaf, with_leaf}
 use Rattle.rust_v0.proofs.PartLemmas.{Begins, Heads, are_plain, head_begins, is_plain, part_weight, parts_weight, weight}
 
 -- productions further in go on
@@ -109,18 +111,25 @@ target_advances : (q : Bool) (inner : Inner) → InnerAdvances inner → (produc
 target_advances true inner h production bytes r = some_advances false 0 r r (uncounted_passed 0 r r (passed_same r r refl refl refl refl refl refl))
 target_advances false inner h production bytes r = away_advances (weight production) r bytes _ (h production (with_bytes bytes r))
 
-target_if : (q p : Bool) (inner : Inner) → InnerAdvances inner → (production : Production) (bytes : List ℕ) (r : State)
-    → Advances false 0 r (if q then (if p then Some r else option_map (with_bytes r.bytes) (inner production (with_bytes bytes r))) else None)
-target_if true p inner h production bytes r = target_advances p inner h production bytes r
-target_if false p inner h production bytes r = none_advances false 0 r
-
 number_advances : (s : State) → AdvancesWith true 1 s (number s)
 number_advances s = taken_advances 1 s (number_62 s.bytes) (number_finds s.bytes)
+
+before_as : (k : ℕ) (s : State) (q : Bool) (at : ℕ × State) → Passed true k s at.1 → AdvancesWith true k s (if q then Some at else None)
+before_as k s true at h = record { passed = h }
+before_as k s false at h = record { passed = tt }
+
+before_more : (k here : ℕ) (s : State) (o : Option (ℕ × State)) → AdvancesWith true k s o → AdvancesWith true k s (option_and_then (if_before here) o)
+before_more k here s None h = record { passed = tt }
+before_more k here s (Some at) h = before_as k s (nat_lt at.0 here) at h.passed
+
+before_advances : (s : State) → AdvancesWith true 1 s (place_before s)
+unfolding place_before
+before_advances s = before_more 1 _ s (number s) (number_advances s)
 
 reference_advances : (inner : Inner) → InnerAdvances inner → (production : Production) (s : State) → Advances false 1 s (back_reference inner production s)
 unfolding back_reference
 reference_advances inner h production s =
-    with_advances true false 1 0 s _ _ (number_advances s) (λ at. target_if _ (is_hidden s.mode) inner h production (drop at.0 s.name) at.1)
+    with_advances true false 1 0 s _ _ (before_advances s) (λ at. target_advances (is_hidden at.1.mode) inner h production (drop at.0 at.1.name) at.1)
 
 -- ---- values and items
 
@@ -206,9 +215,14 @@ unfolding bound_traits
 traits_leaf inner h s =
     then_leaf s _ _ (binder_leaf s) (λ bound. then_leaf bound _ _ (items_leaf inner h Trait (codes " + ") [] bound) (λ all. bound_again all s.bound))
 
+shape_leaf : (inner : Inner) → InnerAdvances inner → (x : Shape) (s : State) → Advances true 0 s (contents_of inner x s)
+shape_leaf inner h Unit s = same_leaf s
+shape_leaf inner h Tuple s = search (leaf_rules, items_leaf inner h) depth 24
+shape_leaf inner h Named s = search (leaf_rules, items_leaf inner h) depth 24
+
 contents_leaf : (inner : Inner) → InnerAdvances inner → (s : State) → Advances true 0 s (variant_contents inner s)
 unfolding variant_contents
-contents_leaf inner h s = search (leaf_rules, items_leaf inner h) depth 24
+contents_leaf inner h s = with_leaf s _ _ (taken_leaf s (shape_at s.bytes) (shape_finds s.bytes)) (λ found. shape_leaf inner h found.0 found.1)
 
 result_leaf : (inner : Inner) → InnerAdvances inner → (s : State) → Advances true 0 s (function_result inner s)
 unfolding function_result
@@ -247,11 +261,61 @@ pub record Produced (k : ℕ) (s r : State) : Type 0 where
 pub record Produces (k : ℕ) (s : State) (o : Option State) : Type 0 where
   pub passed : IfSome o (Produced k s)
 
-produced : (k : ℕ) (s t : State) (parts : List Part) (rest : List ℕ) → 1 ≤ s.left → Heads k s.bytes parts rest
-    → Passed (are_plain parts) (parts_weight parts) (record s { left = s.left - 1; bytes = rest }) t → Produced k s (record t { bound = s.bound })
-produced k s t parts rest pos front h =
+-- the state after a production, under the binders around it
+abbrev bound_at : ℕ → Reading
+bound_at n ended = Some (record ended { bound = n })
+
+-- the parts of the production that stands here
+abbrev headed : Inner → Production → ℕ → Reading
+headed inner production n s = tagged_parts production s >>= λ begun. parts_reading inner begun.0 begun.1 >>= bound_at n
+
+-- tag and parts together pass over a byte more than the parts that are productions
+headed_passed : (k n : ℕ) (s t : State) (parts : List Part) (rest : List ℕ) → Heads k s.bytes parts rest
+    → Passed (are_plain parts) (parts_weight parts) (record s { bytes = rest }) t → Passed true (1 + k) s (record t { bound = n })
+headed_passed k n s t parts rest front h =
     let enough : 1 + k ≤ front.tags + parts_weight parts = front.enough in
     let whole : Rest (front.tags + parts_weight parts) s.bytes t.bytes = rest_then front.tags (parts_weight parts) s.bytes rest t.bytes front.after h.rest in
+    record {
+      total = h.total;
+      mode = h.mode;
+      unshown = h.unshown;
+      shown = h.shown;
+      grown = h.grown;
+      name = h.name;
+      left = h.left;
+      rest = rest_less (front.tags + parts_weight parts) (1 + k) s.bytes t.bytes (omega (arith, enough)) whole;
+      cost = λ e none.
+          let x : length t.bytes + s.left + parts_weight parts ≤ length rest + t.left = h.cost (front.plain none) (none_in_rest front.tags s.bytes rest front.after none) in
+          let y : length rest + front.after.past ≡ length s.bytes = front.after.sized in
+          let z : front.tags ≤ front.after.past = front.after.least in
+          omega (arith, x, y, z, enough);
+    }
+
+headed_end : (k n : ℕ) (s : State) (parts : List Part) (rest : List ℕ) (o : Option State) → Heads k s.bytes parts rest
+    → Advances (are_plain parts) (parts_weight parts) (record s { bytes = rest }) o → Advances true (1 + k) s (o >>= bound_at n)
+headed_end k n s parts rest None front h = record { passed = tt }
+headed_end k n s parts rest (Some t) front h = record { passed = headed_passed k n s t parts rest front h.passed }
+
+headed_parts : (k n : ℕ) (inner : Inner) → InnerAdvances inner → (s : State) (o : Option (List Part × List ℕ)) → Begins k s.bytes o
+    → Advances true (1 + k) s (taken s o >>= λ begun. parts_reading inner begun.0 begun.1 >>= bound_at n)
+headed_parts k n inner h s None begins = record { passed = tt }
+headed_parts k n inner h s (Some p) begins = headed_end k n s p.0 p.1 _ begins.passed (parts_advance inner h p.0 (record s { bytes = p.1 }))
+
+headed_advances : (inner : Inner) → InnerAdvances inner → (production : Production) (n : ℕ) (s : State) → Advances true (1 + weight production) s (headed inner production n s)
+headed_advances inner h production n s = headed_parts (weight production) n inner h s (head production s.bytes) (head_begins production s.bytes)
+
+splat_leaf : (production : Production) (s : State) → Advances true 0 s (splat production s)
+unfolding splat
+splat_leaf production s = search leaf_rules depth 12
+
+splat_advances : (inner : Inner) → InnerAdvances inner → (production : Production) (n : ℕ) (s : State)
+    → Advances true (1 + weight production) s (splat production s >>= headed inner production n)
+splat_advances inner h production n s =
+    advances_less true (0 + (1 + weight production)) (1 + weight production) s _ (omega arith)
+    (then_advances true true 0 (1 + weight production) s _ _ (splat_leaf production s) (λ r. headed_advances inner h production n r))
+
+produced : (k : ℕ) (s t : State) → 1 ≤ s.left → Passed true (1 + k) (record s { left = s.left - 1 }) t → Produced k s t
+produced k s t pos h =
     let down : t.left ≤ s.left - 1 = h.left in
     record {
       passed = record {
@@ -262,41 +326,24 @@ produced k s t parts rest pos front h =
         grown = h.grown;
         name = h.name;
         left = omega (arith, down);
-        rest = rest_less (front.tags + parts_weight parts) k s.bytes t.bytes (omega (arith, enough)) whole;
-        cost = λ e none.
-            let x : length t.bytes + (s.left - 1) + parts_weight parts ≤ length rest + t.left = h.cost (front.plain none) (none_in_rest front.tags s.bytes rest front.after none) in
-            let y : length rest + front.after.past ≡ length s.bytes = front.after.sized in
-            let z : front.tags ≤ front.after.past = front.after.least in
-            omega (arith, x, y, z, enough, pos);
+        rest = rest_less (1 + k) k s.bytes t.bytes (omega arith) h.rest;
+        cost = λ e none. let x : length t.bytes + (s.left - 1) + (1 + k) ≤ length s.bytes + t.left = h.cost e none in omega (arith, x, pos);
       };
-      onward = rest_less (front.tags + parts_weight parts) 1 s.bytes t.bytes (omega (arith, enough)) whole;
+      onward = rest_less (1 + k) 1 s.bytes t.bytes (omega arith) h.rest;
       counted = omega (arith, down, pos);
     }
 
--- the state after a production, under the binders around it
-abbrev bound_at : ℕ → Reading
-bound_at n ended = Some (record ended { bound = n })
-
-rule_end : (k : ℕ) (s : State) (parts : List Part) (rest : List ℕ) (o : Option State) → 1 ≤ s.left → Heads k s.bytes parts rest
-    → Advances (are_plain parts) (parts_weight parts) (record s { left = s.left - 1; bytes = rest }) o
-    → Produces k s (option_and_then (bound_at s.bound) o)
-rule_end k s parts rest None pos front h = record { passed = tt }
-rule_end k s parts rest (Some t) pos front h = record { passed = produced k s t parts rest pos front h.passed }
-
-rule_parts : (k : ℕ) (inner : Inner) → InnerAdvances inner → (s : State) (o : Option (List Part × List ℕ)) → 1 ≤ s.left → Begins k s.bytes o
-    → Produces k s (option_and_then (λ begun. option_and_then (bound_at s.bound) (parts_reading inner begun.0 begun.1))
-    (taken (record s { left = s.left - 1 }) o))
-rule_parts k inner h s None pos begins = record { passed = tt }
-rule_parts k inner h s (Some p) pos begins = rule_end k s p.0 p.1 _ pos begins.passed (parts_advance inner h p.0 (record s { left = s.left - 1; bytes = p.1 }))
+produces : (k : ℕ) (s : State) (o : Option State) → 1 ≤ s.left → Advances true (1 + k) (record s { left = s.left - 1 }) o → Produces k s o
+produces k s None pos h = record { passed = tt }
+produces k s (Some t) pos h = record { passed = produced k s t pos h.passed }
 
 some_left : (n : ℕ) → (n == 0) ≡ false → 1 ≤ n
 some_left n h = grind (arith, nat_tests)
 
 rule_counted : (q : Bool) (inner : Inner) → InnerAdvances inner → (production : Production) (s : State) → (q ≡ false → 1 ≤ s.left)
-    → Produces (weight production) s (option_and_then (λ counted. option_and_then (λ begun. option_and_then (bound_at s.bound) (parts_reading inner begun.0 begun.1))
-    (tagged_parts production counted)) (if q then None else Some (record s { left = s.left - 1 })))
+    → Produces (weight production) s ((if q then None else Some (record s { left = s.left - 1 })) >>= λ counted. splat production counted >>= headed inner production s.bound)
 rule_counted true inner h production s pos = record { passed = tt }
-rule_counted false inner h production s pos = rule_parts (weight production) inner h s (head production s.bytes) (pos refl) (head_begins production s.bytes)
+rule_counted false inner h production s pos = produces (weight production) s _ (pos refl) (splat_advances inner h production s.bound (record s { left = s.left - 1 }))
 
 rule_produces : (inner : Inner) → InnerAdvances inner → (production : Production) (s : State) → Produces (weight production) s (rule inner production s)
 rule_produces inner h production s = rule_counted (s.left == 0) inner h production s (some_left s.left)

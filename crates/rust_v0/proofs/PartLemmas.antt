@@ -5,9 +5,9 @@ use Rattle.std.specs.Option.{option_or}
 use Rattle.std.specs.Str.{byte}
 use Rattle.std.proofs.lemmas.Bool.Decides.{nat_tests}
 use Rattle.rust_v0.specs.declared.grammar.Production.{Production}
-use Rattle.rust_v0.specs.declared.grammar.Production.TheVariants.{ValuePath, TypePath, TraitPath, AnyType, BareType, BracedConstant, BareConstant, Pattern}
+use Rattle.rust_v0.specs.declared.grammar.Production.TheVariants.{ValuePath, TypePath, TraitPath, AnyType, BracedConstant, BareConstant, Pattern}
 use Rattle.rust_v0.specs.Numbers.{after}
-use Rattle.rust_v0.specs.Grammar.{Part, shown, single, inside, nested, place, reference, list, more, tuple, traits, contents, returned, after_text_reference, bare_parts, bare_type_parts, basic_parts, braced_parts, compound_parts, head, head_after, is_constant, is_type, literal_parts, parts_after, parts_of, pattern_parts, tagged, trait_path_parts, type_parts, type_path_parts, value_path_parts}
+use Rattle.rust_v0.specs.Grammar.{Part, shown, single, inside, nested, place, reference, list, more, tuple, traits, contents, returned, after_text_reference, bare_parts, basic_parts, braced_parts, compound_parts, head, head_after, is_constant, is_type, literal_parts, parts_after, parts_of, path_parts, pattern_parts, tagged, trait_path_parts, type_parts, type_path_parts, value_path_parts}
 use Rattle.rust_v0.specs.ReadLaws.{has_reference}
 use Rattle.rust_v0.proofs.StateLemmas.{Rest, rest_all, rest_step, rest_then}
 use Rattle.rust_v0.proofs.BytesLemmas.{Follows, after_follows}
@@ -19,7 +19,6 @@ weight ValuePath = 1
 weight TypePath = 1
 weight TraitPath = 1
 weight AnyType = 0
-weight BareType = 0
 weight BracedConstant = 0
 weight BareConstant = 0
 weight Pattern = 0
@@ -97,11 +96,11 @@ tags_or k tag (Some parts) y h g = h
 ruleset tag_rules = (tags_reference, tags_plain, tags_none, tags_if, refl)
 
 value_path_tags : (tag : ℕ) → Tags 1 tag (value_path_parts tag)
-unfolding value_path_parts
+unfolding path_parts
 value_path_tags tag = search tag_rules depth 30
 
 type_path_tags : (tag : ℕ) → Tags 1 tag (type_path_parts tag)
-unfolding type_path_parts
+unfolding path_parts
 type_path_tags tag = search tag_rules depth 30
 
 trait_path_tags : (tag : ℕ) → Tags 1 tag (trait_path_parts tag)
@@ -132,20 +131,15 @@ pattern_tags : (tag : ℕ) → Tags 0 tag (pattern_parts tag)
 unfolding pattern_parts
 pattern_tags tag = search tag_rules depth 40
 
-bare_type_tags : (tag : ℕ) → Tags 0 tag (bare_type_parts tag)
-unfolding bare_type_parts
-bare_type_tags tag = tags_or 0 tag _ _ (basic_tags tag) (compound_tags tag)
-
 type_tags : (tag : ℕ) → Tags 0 tag (type_parts tag)
 unfolding type_parts
-type_tags tag = search (tag_rules, bare_type_tags) depth 20
+type_tags tag = tags_or 0 tag _ _ (basic_tags tag) (compound_tags tag)
 
 production_tags : (production : Production) (tag : ℕ) → Tags (weight production) tag (parts_of production tag)
 production_tags ValuePath tag = value_path_tags tag
 production_tags TypePath tag = type_path_tags tag
 production_tags TraitPath tag = trait_path_tags tag
 production_tags AnyType tag = type_tags tag
-production_tags BareType tag = bare_type_tags tag
 production_tags BracedConstant tag = braced_tags tag
 production_tags BareConstant tag = bare_tags tag
 production_tags Pattern tag = pattern_tags tag
@@ -173,7 +167,6 @@ as_type ValuePath tag bytes = record { passed = tt }
 as_type TypePath tag bytes = record { passed = tt }
 as_type TraitPath tag bytes = record { passed = tt }
 as_type AnyType tag bytes = record { passed = record { tags = 0; after = rest_all (tag ∷ bytes); enough = omega arith; plain = λ e. refl } }
-as_type BareType tag bytes = record { passed = record { tags = 0; after = rest_all (tag ∷ bytes); enough = omega arith; plain = λ e. refl } }
 as_type BracedConstant tag bytes = record { passed = tt }
 as_type BareConstant tag bytes = record { passed = tt }
 as_type Pattern tag bytes = record { passed = tt }
@@ -211,7 +204,6 @@ weight_low ValuePath = omega arith
 weight_low TypePath = omega arith
 weight_low TraitPath = omega arith
 weight_low AnyType = omega arith
-weight_low BareType = omega arith
 weight_low BracedConstant = omega arith
 weight_low BareConstant = omega arith
 weight_low Pattern = omega arith

@@ -3,7 +3,7 @@ use Rattle.std.proofs.Common.{◌≡◌, ◌∙◌, ◌≤◌, ◌<◌, ◌+◌,
 use Rattle.std.specs.Prelude.{◌==◌, if◌then◌else◌, Option, Some, None, option_and_then, IfSome}
 use Rattle.std.proofs.Math.Seq.{take-append_seam}
 use Rattle.rust_v0.specs.declared.grammar.Production.{Production}
-use Rattle.rust_v0.specs.declared.grammar.Production.TheVariants.{ValuePath, TypePath, TraitPath, AnyType, BareType, BracedConstant, BareConstant, Pattern}
+use Rattle.rust_v0.specs.declared.grammar.Production.TheVariants.{ValuePath, TypePath, TraitPath, AnyType, BracedConstant, BareConstant, Pattern}
 use Rattle.rust_v0.specs.declared.printer.Mode.TheVariants.{Written}
 use Rattle.rust_v0.specs.State.{State}
 use Rattle.rust_v0.specs.Reads.{reads}
@@ -51,7 +51,6 @@ path_less ValuePath s r h none e = less_from s r h none
 path_less TypePath s r h none e = less_from s r h none
 path_less TraitPath s r h none e = less_from s r h none
 path_less AnyType s r h none e = absurd (let no : false ≡ true = e in cc)
-path_less BareType s r h none e = absurd (let no : false ≡ true = e in cc)
 path_less BracedConstant s r h none e = absurd (let no : false ≡ true = e in cc)
 path_less BareConstant s r h none e = absurd (let no : false ≡ true = e in cc)
 path_less Pattern s r h none e = absurd (let no : false ≡ true = e in cc)

@@ -5,7 +5,7 @@ use Rattle.std.proofs.lemmas.List.{append-nil, append_assoc}
 use Rattle.std.specs.Prelude.{◌&&◌, nat_lt, if◌then◌else◌, Option, Some, None, option_and_then, IfSome}
 use Rattle.std.proofs.lemmas.Bool.Decides.{nat_tests}
 use Rattle.rust_v0.specs.declared.printer.Mode.TheVariants.{Written, Hidden}
-use Rattle.rust_v0.specs.State.{State, Reading, say, is_hidden, is_written}
+use Rattle.rust_v0.specs.State.{State, Reading, say, is_hidden}
 use Rattle.rust_v0.specs.ReadLaws.{has_reference}
 
 -- ---- bytes
@@ -178,7 +178,7 @@ pub say_advances : (text : List ℕ) (s : State) → Advances true 0 s (say text
 unfolding say
 say_advances text s =
     elim s.mode as (λ m. s.mode ≡ m → Advances true 0 s (if is_hidden m then Some s else (if nat_lt s.room (length text) then None
-    else Some (if is_written m then record s { room = s.room - length text; text = s.text ++ text } else record s { room = s.room - length text })))) [
+    else Some (record s { room = s.room - length text; text = s.text ++ text })))) [
       | Hidden ↦ λ e. same_advances s
       | Written ↦ λ shown. elim (nat_lt s.room (length text)) as (λ q. nat_lt s.room (length text) ≡ q → Advances true 0 s (if q then None else Some (record s { room = s.room - length text; text = s.text ++ text }))) [
         | true ↦ λ e. none_advances true 0 s

@@ -1,13 +1,12 @@
 -- The grammar of v0 names: which parts each production is made of, in order, and their texts.
 -- Source: Rust RFC 2603 and what rustc added: types of patterns, splat types, constants that are
 -- references, texts, arrays, tuples or structs, and bindings of constants.
--- Own: a type behind `w` is a production of its own.
 use Rattle.std.specs.Prelude.{ℕ, ◌==◌, ◌||◌, Bool, true, false, List, [], ◌∷◌, if◌then◌else◌, Option, Some, None, option_and_then, codes}
 use Rattle.std.specs.Option.{option_or}
 use Rattle.std.specs.Str.{byte}
 use Rattle.rust_v0.specs.Numbers.{after}
 use Rattle.rust_v0.specs.declared.grammar.Production.{Production}
-use Rattle.rust_v0.specs.declared.grammar.Production.TheVariants.{ValuePath, TypePath, TraitPath, AnyType, BareType, BracedConstant, BareConstant, Pattern}
+use Rattle.rust_v0.specs.declared.grammar.Production.TheVariants.{ValuePath, TypePath, TraitPath, AnyType, BracedConstant, BareConstant, Pattern}
 use Rattle.rust_v0.specs.declared.grammar.Item.{Item}
 use Rattle.rust_v0.specs.declared.grammar.Item.TheVariants.{Argument, TypeItem, ConstantItem, PatternItem}
 use Rattle.rust_v0.specs.declared.grammar.Leaf.{Leaf}
@@ -45,29 +44,24 @@ part_of in_code.Traits = traits
 part_of in_code.Contents = contents
 part_of in_code.Returned = returned
 
--- the parts of a path inside an expression
-unfoldable pub value_path_parts : ℕ → Option (List Part)
-value_path_parts tag =
+-- the parts of a path, inside an expression or a type: a text opens its generic arguments
+unfoldable pub path_parts : Production → List ℕ → ℕ → Option (List Part)
+path_parts path opening tag =
     if tag == byte "C" then Some (single Root ∷ [])
-    else (if tag == byte "N" then Some (nested ValuePath ∷ [])
+    else (if tag == byte "N" then Some (nested path ∷ [])
     else (if tag == byte "M" then Some (place ∷ shown (codes "<") ∷ inside AnyType ∷ shown (codes ">") ∷ [])
     else (if tag == byte "X" then Some (place ∷ shown (codes "<") ∷ inside AnyType ∷ shown (codes " as ") ∷ inside TypePath ∷ shown (codes ">") ∷ [])
     else (if tag == byte "Y" then Some (shown (codes "<") ∷ inside AnyType ∷ shown (codes " as ") ∷ inside TypePath ∷ shown (codes ">") ∷ [])
-    else (if tag == byte "I" then Some (inside ValuePath ∷ shown (codes "::<") ∷ list Argument (codes ", ") ∷ shown (codes ">") ∷ [])
-    else (if tag == byte "B" then Some (reference ValuePath ∷ [])
+    else (if tag == byte "I" then Some (inside path ∷ shown opening ∷ list Argument (codes ", ") ∷ shown (codes ">") ∷ [])
+    else (if tag == byte "B" then Some (reference path ∷ [])
     else None))))))
 
--- the parts of a path inside a type
-unfoldable pub type_path_parts : ℕ → Option (List Part)
-type_path_parts tag =
-    if tag == byte "C" then Some (single Root ∷ [])
-    else (if tag == byte "N" then Some (nested TypePath ∷ [])
-    else (if tag == byte "M" then Some (place ∷ shown (codes "<") ∷ inside AnyType ∷ shown (codes ">") ∷ [])
-    else (if tag == byte "X" then Some (place ∷ shown (codes "<") ∷ inside AnyType ∷ shown (codes " as ") ∷ inside TypePath ∷ shown (codes ">") ∷ [])
-    else (if tag == byte "Y" then Some (shown (codes "<") ∷ inside AnyType ∷ shown (codes " as ") ∷ inside TypePath ∷ shown (codes ">") ∷ [])
-    else (if tag == byte "I" then Some (inside TypePath ∷ shown (codes "<") ∷ list Argument (codes ", ") ∷ shown (codes ">") ∷ [])
-    else (if tag == byte "B" then Some (reference TypePath ∷ [])
-    else None))))))
+-- the same of a path inside an expression, and of one inside a type
+abbrev pub value_path_parts : ℕ → Option (List Part)
+value_path_parts tag = path_parts ValuePath (codes "::<") tag
+
+abbrev pub type_path_parts : ℕ → Option (List Part)
+type_path_parts tag = path_parts TypePath (codes "<") tag
 
 -- the parts of a trait's path
 unfoldable pub trait_path_parts : ℕ → Option (List Part)
@@ -160,15 +154,9 @@ pattern_parts tag =
     else (if tag == byte "N" then Some (shown (codes "!null") ∷ [])
     else None))
 
--- the parts of a type that is no path, without `w`
-unfoldable pub bare_type_parts : ℕ → Option (List Part)
-bare_type_parts tag = option_or (basic_parts tag) (compound_parts tag)
-
--- the parts of a type that is no path
+-- the parts of a type that is no path, without the `w` that may stand before it
 unfoldable pub type_parts : ℕ → Option (List Part)
-type_parts tag =
-    if tag == byte "w" then Some (shown (codes "#[splat] ") ∷ inside BareType ∷ [])
-    else bare_type_parts tag
+type_parts tag = option_or (basic_parts tag) (compound_parts tag)
 
 -- the parts of a production that begins with that tag
 abbrev pub parts_of : Production → ℕ → Option (List Part)
@@ -176,7 +164,6 @@ parts_of ValuePath tag = value_path_parts tag
 parts_of TypePath tag = type_path_parts tag
 parts_of TraitPath tag = trait_path_parts tag
 parts_of AnyType tag = type_parts tag
-parts_of BareType tag = bare_type_parts tag
 parts_of BracedConstant tag = braced_parts tag
 parts_of BareConstant tag = bare_parts tag
 parts_of Pattern tag = pattern_parts tag
@@ -187,7 +174,6 @@ is_constant ValuePath = false
 is_constant TypePath = false
 is_constant TraitPath = false
 is_constant AnyType = false
-is_constant BareType = false
 is_constant BracedConstant = true
 is_constant BareConstant = true
 is_constant Pattern = false
@@ -198,7 +184,6 @@ is_type ValuePath = false
 is_type TypePath = false
 is_type TraitPath = false
 is_type AnyType = true
-is_type BareType = true
 is_type BracedConstant = false
 is_type BareConstant = false
 is_type Pattern = false
@@ -225,6 +210,6 @@ abbrev pub head_after : Option (List ℕ) → Production → List ℕ → Option
 head_after (Some rest) production bytes = Some (single Text ∷ [], rest)
 head_after None production bytes = tagged production bytes
 
--- the parts of the production that stands here, and the bytes after its tag
+-- the parts of the production that stands here, and the bytes after its tag; a `w` was passed over
 unfoldable pub head : Production → List ℕ → Option (List Part × List ℕ)
 head production bytes = head_after (after_text_reference production bytes) production bytes

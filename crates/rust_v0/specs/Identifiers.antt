@@ -80,8 +80,11 @@ abbrev pub if_few : Option (List ℕ) → Option (List ℕ)
 if_few found =
     option_and_then (λ cs. if nat_le (length cs) most_characters then Some cs else None) found
 
+-- whether a word is read as Punycode at all
+abbrev pub is_decodable : List ℕ → Bool
+is_decodable word =
+    nat_le (length (hyphenated word)) most_punycode && list_all is_puny_digit (digits_part word)
+
 -- the characters that Punycode is shown as
 unfoldable pub decoded : List ℕ → Option (List ℕ)
-decoded word =
-    if nat_le (length (hyphenated word)) most_punycode && list_all is_puny_digit (digits_part word)
-    then if_few (decode (hyphenated word)) else None
+decoded word = if is_decodable word then if_few (decode (hyphenated word)) else None

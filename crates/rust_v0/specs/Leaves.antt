@@ -24,10 +24,6 @@ if_next b next other s = after_or s (after b s.bytes) next (other s)
 abbrev pub nothing : Reading
 nothing s = Some s
 
--- a fault
-abbrev pub fault : Reading
-fault s = None
-
 -- a number in base 62
 abbrev pub number : State → Option (ℕ × State)
 number s = taken s (number_62 s.bytes)
@@ -107,10 +103,17 @@ abbrev pub say_object_lifetime : ℕ → Reading
 say_object_lifetime index s =
     if index == 0 then Some s else say (codes " + ") s >>= say_lifetime index
 
+-- the number of a lifetime after its letter
+abbrev pub index_after : State → Option (List ℕ) → Option (ℕ × State)
+index_after s None = None
+index_after s (Some rest) = number (record s { bytes = rest })
+
+unfoldable pub lifetime_index : State → Option (ℕ × State)
+lifetime_index s = index_after s (after (byte "L") s.bytes)
+
 -- the lifetime of a trait object
 unfoldable pub object_lifetime : Reading
-object_lifetime s = if_next (byte "L")
-    (λ r. number r >>= λ index. say_object_lifetime index.0 index.1) fault s
+object_lifetime s = lifetime_index s >>= λ index. say_object_lifetime index.0 index.1
 
 -- ---- names
 
@@ -160,18 +163,20 @@ unsafety s = if_next (byte "U") (say (codes "unsafe ")) nothing s
 abbrev pub hyphen : ℕ → ℕ
 hyphen c = if c == byte "_" then byte "-" else c
 
--- the word of an ABI, with hyphens
-abbrev pub say_abi_word : List ℕ → Reading
-say_abi_word word s = if length word == 0 then None else say_chars (map hyphen word) s
+-- the word of an ABI, which isn't empty
+abbrev pub as_abi_word : List ℕ × List ℕ → Option (List ℕ × List ℕ)
+as_abi_word p = if length p.0 == 0 then None else Some p
 
-unfoldable pub abi_word : Reading
-abi_word s = do
-  word ← taken s (word_at s.bytes)
-  say_abi_word word.0 word.1
+abbrev pub abi_word : State → Option (List ℕ × State)
+abi_word s = taken s (word_at s.bytes >>= as_abi_word)
+
+-- the same shown, with hyphens
+unfoldable pub say_abi_word : Reading
+say_abi_word s = abi_word s >>= λ word. say_chars (map hyphen word.0) word.1
 
 -- the name of an ABI
 unfoldable pub abi_name : Reading
-abi_name s = if_next (byte "C") (say (codes "C")) abi_word s
+abi_name s = if_next (byte "C") (say (codes "C")) say_abi_word s
 
 -- the ABI of a function, if there is one
 unfoldable pub abi : Reading
@@ -210,14 +215,14 @@ unfoldable pub literal : State → Option (ℕ × State)
 literal s = hex_digits s >>= as_literal
 
 -- `false` or `true`
-abbrev pub say_boolean : ℕ → Reading
-say_boolean n s =
-    if n == 0 then say (codes "false") s else (if n == 1 then say (codes "true") s else None)
+abbrev pub boolean_text : ℕ → Option (List ℕ)
+boolean_text n = if n == 0 then Some (codes "false") else (if n == 1 then Some (codes "true") else None)
 
 unfoldable pub boolean : Reading
 boolean s = do
   n ← literal s
-  say_boolean n.0 n.1
+  text ← boolean_text n.0
+  say text n.1
 
 -- a Unicode scalar value: a code point that is no surrogate
 abbrev pub as_scalar : ℕ → Option ℕ
@@ -255,11 +260,18 @@ say_string bytes s = if is_utf8 bytes
     then ((say (codes "\"") s >>= say_quoted (chars bytes)) >>= say (codes "\""))
     else None
 
+-- hexadecimal digits, two for each byte
+abbrev pub as_pairs : List ℕ × State → Option (List ℕ × State)
+as_pairs p = if length p.0 % 2 == 1 then None else Some p
+
+unfoldable pub digit_pairs : State → Option (List ℕ × State)
+digit_pairs s = hex_digits s >>= as_pairs
+
 -- a string
 unfoldable pub string : Reading
 string s = do
-  digits ← hex_digits s
-  if length digits.0 % 2 == 1 then None else say_string (bytes_of digits.0) digits.1
+  digits ← digit_pairs s
+  say_string (bytes_of digits.0) digits.1
 
 -- what has no production inside
 abbrev pub leaf_reading : Leaf → Reading

@@ -1,11 +1,11 @@
--- Laws of readings: they go on through the bytes, keep to what may be read and shown, and show no
--- path that isn't shown.
+-- Laws of readings: they go on through the bytes, keep to what may be read and shown, show no path
+-- that isn't shown, and are decided by the name alone.
 -- Own: all of it.
-use Rattle.std.specs.Prelude.{◌≡◌, ◌≤◌, ◌<◌, ◌+◌, ◌-◌, ◌==◌, ℕ, Bool, true, false, List, take, drop, length, Some, None}
+use Rattle.std.specs.Prelude.{◌≡◌, ◌≤◌, ◌<◌, ◌+◌, ◌-◌, ◌==◌, ◌++◌, ℕ, Bool, true, false, List, take, drop, length, Some, None}
 use Rattle.std.specs.List.{list_any}
 use Rattle.std.specs.Str.{byte}
 use Rattle.rust_v0.specs.declared.grammar.Production.{Production}
-use Rattle.rust_v0.specs.declared.grammar.Production.TheVariants.{ValuePath, TypePath, TraitPath, AnyType, BareType, BracedConstant, BareConstant, Pattern}
+use Rattle.rust_v0.specs.declared.grammar.Production.TheVariants.{ValuePath, TypePath, TraitPath, AnyType, BracedConstant, BareConstant, Pattern}
 use Rattle.rust_v0.specs.declared.printer.Mode.TheVariants.{Written, Hidden}
 use Rattle.rust_v0.specs.State.{State}
 use Rattle.rust_v0.specs.Reads.{reads}
@@ -33,7 +33,6 @@ is_path_production ValuePath = true
 is_path_production TypePath = true
 is_path_production TraitPath = true
 is_path_production AnyType = false
-is_path_production BareType = false
 is_path_production BracedConstant = false
 is_path_production BareConstant = false
 is_path_production Pattern = false
@@ -113,3 +112,26 @@ pub record WithinLimits : Type 0 where
   pub count : KeepsCount
   pub text : TextGrows
   pub name : NameWithinLimits
+
+-- what more a reading may be given: a text that stands before its own, room, productions and levels
+pub record More : Type 0 where
+  pub text : List ℕ
+  pub room : ℕ
+  pub left : ℕ
+  pub levels : ℕ
+
+-- a state with so much more
+abbrev pub with_more : More → State → State
+with_more m s = record s {
+  text = m.text ++ s.text;
+  room = s.room + m.room;
+  left = s.left + m.left;
+}
+
+-- with more before it and more left, a production reads and shows the same: the name, the binders
+-- around and whether it is shown decide its text, and the limits only refuse
+abbrev pub ReadsAlone : Type 0
+ReadsAlone =
+    (m : More) (levels : ℕ) (production : Production) (s r : State)
+    → reads levels production s ≡ Some r
+    → reads (levels + m.levels) production (with_more m s) ≡ Some (with_more m r)

@@ -8,13 +8,15 @@ use Rattle.rust_v0.specs.declared.grammar.Production.{Production}
 use Rattle.rust_v0.specs.declared.grammar.Production.TheVariants.{TypePath, TraitPath, AnyType, BracedConstant, BareConstant, Pattern}
 use Rattle.rust_v0.specs.declared.grammar.Item.{Item}
 use Rattle.rust_v0.specs.declared.grammar.Item.TheVariants.{Argument, TypeItem, ConstantItem, Field, Trait, PatternItem}
+use Rattle.rust_v0.specs.declared.reading.Shape.{Shape}
+use Rattle.rust_v0.specs.declared.reading.Shape.TheVariants.{Unit, Tuple, Named}
 use Rattle.rust_v0.specs.declared.printer.Mode.{Mode}
 use Rattle.rust_v0.specs.declared.printer.Mode.TheVariants.{Hidden}
-use Rattle.rust_v0.specs.Grammar.{Part, shown, single, inside, nested, place, reference, list, more, tuple, traits, contents, returned, head}
+use Rattle.rust_v0.specs.Grammar.{Part, shown, single, inside, nested, place, reference, list, more, tuple, traits, contents, returned, head, is_type}
 use Rattle.rust_v0.specs.Numbers.{after}
 use Rattle.rust_v0.specs.State.{State, Reading, say, is_hidden, taken, ◌>>=◌}
 use Rattle.rust_v0.specs.Shown.{say_identifier}
-use Rattle.rust_v0.specs.Leaves.{if_next, nothing, fault, number, counted_in, identifier, letter, say_lifetime, segment, binder, leaf_reading}
+use Rattle.rust_v0.specs.Leaves.{if_next, nothing, number, counted_in, identifier, letter, say_lifetime, segment, binder, leaf_reading}
 
 -- how each production reads one level further in
 abbrev pub Inner : Type 0
@@ -47,17 +49,23 @@ nested_path inner path s = do
   around ← inner path space.1
   segment space.0 around
 
+-- a place that is before another one
+abbrev pub if_before : ℕ → ℕ × State → Option (ℕ × State)
+if_before here at = if nat_lt at.0 here then Some at else None
+
+-- the place that a reference names: one before that of its own tag
+unfoldable pub place_before : State → Option (ℕ × State)
+place_before s = number s >>= if_before (length s.name - (length s.bytes + 1))
+
 -- what stands at a place that a reference names, and then what follows the reference
-abbrev pub target : Inner → Production → ℕ → State → Reading
-target inner production at s r =
-    if is_hidden s.mode then Some r
-    else option_map (with_bytes r.bytes) (inner production (with_bytes (drop at s.name) r))
+abbrev pub target : Inner → Production → ℕ → Reading
+target inner production at s =
+    if is_hidden s.mode then Some s
+    else option_map (with_bytes s.bytes) (inner production (with_bytes (drop at s.name) s))
 
 -- a reference: a place before its own, and the production as it reads from there
 unfoldable pub back_reference : Inner → Production → Reading
-back_reference inner production s = number s >>= λ at.
-    if nat_lt at.0 (length s.name - (length s.bytes + 1))
-    then target inner production at.0 s at.1 else None
+back_reference inner production s = place_before s >>= λ at. target inner production at.0 at.1
 
 -- a constant after `K`, or a type
 unfoldable pub value : Inner → Reading
@@ -158,10 +166,27 @@ unnamed inner s = (say (codes "(") s >>= items inner ConstantItem (codes ", ") [
 abbrev pub named_fields : Inner → Reading
 named_fields inner s = (say (codes " { ") s >>= items inner Field (codes ", ") []) >>= say (codes " }")
 
+-- what a struct or a variant contains, by its letter
+abbrev pub shape_of : ℕ → Option Shape
+shape_of c =
+    if c == byte "U" then Some Unit
+    else (if c == byte "T" then Some Tuple else (if c == byte "S" then Some Named else None))
+
+abbrev pub shape_at : List ℕ → Option (Shape × List ℕ)
+shape_at [] = None
+shape_at (c ∷ bytes) = option_map (λ x. (x, bytes)) (shape_of c)
+
+abbrev pub shape : State → Option (Shape × State)
+shape s = taken s (shape_at s.bytes)
+
+abbrev pub contents_of : Inner → Shape → Reading
+contents_of inner Unit s = Some s
+contents_of inner Tuple s = unnamed inner s
+contents_of inner Named s = named_fields inner s
+
 -- what a struct or a variant contains
 unfoldable pub variant_contents : Inner → Reading
-variant_contents inner s = if_next (byte "U") nothing
-    (if_next (byte "T") (unnamed inner) (if_next (byte "S") (named_fields inner) fault)) s
+variant_contents inner s = shape s >>= λ found. contents_of inner found.0 found.1
 
 -- the result of a function, which isn't shown where it is `()`
 unfoldable pub function_result : Inner → Reading
@@ -192,11 +217,16 @@ parts_reading inner (part ∷ parts) s = part_reading inner part s >>= parts_rea
 abbrev pub tagged_parts : Production → State → Option (List Part × State)
 tagged_parts production s = taken s (head production s.bytes)
 
+-- the `w` that may stand before a type
+unfoldable pub splat : Production → Reading
+splat production s = if is_type production then if_next (byte "w") (say (codes "#[splat] ")) nothing s else Some s
+
 -- the parts of a production, under the binders around it
 abbrev pub rule : Inner → Production → Reading
 rule inner production s = do
   counted ← count s
-  begun ← tagged_parts production counted
+  front ← splat production counted
+  begun ← tagged_parts production front
   ended ← parts_reading inner begun.0 begun.1
   Some (record ended { bound = s.bound })
 

@@ -6,8 +6,9 @@ use Rattle.rust_v0.specs.declared.printer.Mode.{Mode}
 use Rattle.rust_v0.specs.declared.printer.Mode.TheVariants.{Written, Hidden}
 use Rattle.rust_v0.specs.declared.printer.Printer.{Printer}
 use Rattle.rust_v0.specs.declared.identifiers.Identifier.{Identifier}
+use Rattle.rust_v0.specs.declared.stop.Fault.{Fault}
 use Rattle.rust_v0.specs.declared.stop.Stop.{Stop}
-use Rattle.rust_v0.specs.declared.stop.Stop.TheVariants.{Fault}
+use Rattle.rust_v0.specs.declared.stop.Stop.TheVariants as stops
 
 -- the state of a reading
 pub record State : Type 0 where
@@ -46,15 +47,25 @@ infixl 10 ◌>>=◌
 abbrev pub ◌>>=◌ : {A B : Type 0} → Option A → (A → Option B) → Option B
 found >>= f = option_and_then f found
 
+-- the call left what the reading gives, and failed where it gives nothing
+abbrev pub Passes : {A : Type 0} → Result A Fault → State → Option State → Type 0
+Passes (Ok x) new reading = reading ≡ Some new
+Passes (Err e) new reading = reading ≡ None
+
+-- the same, with a value
+abbrev pub Gives : {A B : Type 0} → (A → B) → Result A Fault → State → Option (B × State) → Type 0
+Gives view (Ok x) new reading = reading ≡ Some (view x, new)
+Gives view (Err e) new reading = reading ≡ None
+
 -- the call left what the reading gives, and failed where it gives nothing, or a growth was refused
 abbrev pub Moves : {A : Type 0} → Result A Stop → State → Option State → Type 0
 Moves (Ok x) new reading = reading ≡ Some new
-Moves (Err e) new reading = e ≡ Fault → reading ≡ None
+Moves (Err e) new reading = e ≡ stops.Fault → reading ≡ None
 
 -- the same, with a value
-abbrev pub Gives : {A B : Type 0} → (A → B) → Result A Stop → State → Option (B × State) → Type 0
-Gives view (Ok x) new reading = reading ≡ Some (view x, new)
-Gives view (Err e) new reading = e ≡ Fault → reading ≡ None
+abbrev pub MovesTo : {A B : Type 0} → (A → B) → Result A Stop → State → Option (B × State) → Type 0
+MovesTo view (Ok x) new reading = reading ≡ Some (view x, new)
+MovesTo view (Err e) new reading = e ≡ stops.Fault → reading ≡ None
 
 -- a reading of bytes as one of states
 abbrev pub taken : {A : Type 0} → State → Option (A × List ℕ) → Option (A × State)
@@ -70,18 +81,9 @@ abbrev pub is_hidden : Mode → Bool
 is_hidden Written = false
 is_hidden Hidden = true
 
--- whether texts are written
-abbrev pub is_written : Mode → Bool
-is_written Written = true
-is_written Hidden = false
-
--- a text added, where texts are written
-abbrev pub written : List ℕ → State → State
-written text s = if is_written s.mode then record s { text = s.text ++ text } else s
-
 -- a text shown, if there is room for it
 unfoldable pub say : List ℕ → Reading
 say text s =
     if is_hidden s.mode then Some s
     else (if nat_lt s.room (length text) then None
-    else Some (written text (record s { room = s.room - length text })))
+    else Some (record s { room = s.room - length text; text = s.text ++ text }))

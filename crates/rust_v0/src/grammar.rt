@@ -1,7 +1,7 @@
 //! The grammar: which parts a production is made of.
 
 ghost use Rattle.std.specs.Prelude.{◌≡◌, map, MatchOption};
-ghost use Rattle.rust_v0.specs.Grammar.{after_text_reference, bare_parts, bare_type_parts, basic_parts, braced_parts, compound_parts, head, is_constant, is_type, literal_parts, part_of, parts_of, pattern_parts, tagged, trait_path_parts, type_parts, type_path_parts, value_path_parts};
+ghost use Rattle.rust_v0.specs.Grammar.{after_text_reference, bare_parts, basic_parts, braced_parts, compound_parts, head, is_constant, is_type, literal_parts, part_of, parts_of, pattern_parts, tagged, trait_path_parts, type_parts, type_path_parts, value_path_parts};
 
 use crate::numbers::after;
 
@@ -16,8 +16,6 @@ pub(crate) enum Production {
     TraitPath,
     /// A type.
     AnyType,
-    /// A type without `w`.
-    BareType,
     /// A constant that is a generic argument, a binding or a bound: in braces unless a literal.
     BracedConstant,
     /// A constant inside another one, or an array's length.
@@ -159,7 +157,7 @@ static TYPE_PATH_REFERENCE: [Part; 1] = [Part::Reference(Production::TypePath)];
 static TRAIT_PATH_REFERENCE: [Part; 1] = [Part::Reference(Production::TraitPath)];
 
 /// The parts of a path inside an expression.
-#[tactic(auto, unfolding(crate::specs::Grammar::value_path_parts))]
+#[tactic(auto, unfolding(crate::specs::Grammar::path_parts))]
 fn value_path_parts(tag: u8) -> Option<&'static [Part]>
     ensures { MatchOption result (value_path_parts tag ≡ None)
         (λ ps. value_path_parts tag ≡ Some (map part_of ps.now)) }
@@ -177,7 +175,7 @@ fn value_path_parts(tag: u8) -> Option<&'static [Part]>
 }
 
 /// The parts of a path inside a type.
-#[tactic(auto, unfolding(crate::specs::Grammar::type_path_parts))]
+#[tactic(auto, unfolding(crate::specs::Grammar::path_parts))]
 fn type_path_parts(tag: u8) -> Option<&'static [Part]>
     ensures { MatchOption result (type_path_parts tag ≡ None)
         (λ ps. type_path_parts tag ≡ Some (map part_of ps.now)) }
@@ -206,8 +204,6 @@ fn trait_path_parts(tag: u8) -> Option<&'static [Part]>
         _ => type_path_parts(tag),
     }
 }
-
-static SPLAT: [Part; 2] = [Part::Shown("#[splat] "), Part::Inside(Production::BareType)];
 
 static SHARED_REFERENCE: [Part; 3] = [
     Part::Shown("&"),
@@ -366,28 +362,15 @@ fn basic_parts(tag: u8) -> Option<&'static [Part]>
     }
 }
 
-/// The parts of a type that is no path, without `w`.
-#[tactic(auto, unfolding(crate::specs::Grammar::bare_type_parts))]
-fn bare_type_parts(tag: u8) -> Option<&'static [Part]>
-    ensures { MatchOption result (bare_type_parts tag ≡ None)
-        (λ ps. bare_type_parts tag ≡ Some (map part_of ps.now)) }
-{
-    match basic_parts(tag) {
-        Some(parts) => Some(parts),
-        None => compound_parts(tag),
-    }
-}
-
-/// The parts of a type that is no path.
+/// The parts of a type that is no path, without the `w` that may stand before it.
 #[tactic(auto, unfolding(crate::specs::Grammar::type_parts))]
 fn type_parts(tag: u8) -> Option<&'static [Part]>
     ensures { MatchOption result (type_parts tag ≡ None)
         (λ ps. type_parts tag ≡ Some (map part_of ps.now)) }
 {
-    if tag == b'w' {
-        Some(&SPLAT)
-    } else {
-        bare_type_parts(tag)
+    match basic_parts(tag) {
+        Some(parts) => Some(parts),
+        None => compound_parts(tag),
     }
 }
 
@@ -551,7 +534,6 @@ fn parts_of(production: Production, tag: u8) -> Option<&'static [Part]>
         Production::TypePath => type_path_parts(tag),
         Production::TraitPath => trait_path_parts(tag),
         Production::AnyType => type_parts(tag),
-        Production::BareType => bare_type_parts(tag),
         Production::BracedConstant => braced_parts(tag),
         Production::BareConstant => bare_parts(tag),
         Production::Pattern => pattern_parts(tag),
@@ -570,17 +552,16 @@ fn is_constant(production: Production) -> bool
         | Production::TypePath
         | Production::TraitPath
         | Production::AnyType
-        | Production::BareType
         | Production::Pattern => false,
     }
 }
 
-/// Whether the production may be a path, which has no tag of its own there.
-fn is_type(production: Production) -> bool
+/// Whether the production is a type: it may be a path, which has no tag of its own there.
+pub(crate) fn is_type(production: Production) -> bool
     ensures { result ≡ is_type production }
 {
     match production {
-        Production::AnyType | Production::BareType => true,
+        Production::AnyType => true,
         Production::ValuePath
         | Production::TypePath
         | Production::TraitPath

@@ -1,14 +1,13 @@
 //! Identifiers: words after their lengths, and Punycode.
 
-ghost use Rattle.std.specs.Prelude.{◌≡◌, Some, ◌≤◌, ◌<◌, ◌+◌, ◌++◌, ◌&&◌, length, nat_le, true, IfSome, IfOk, OnOk, MatchOption, MatchResult, string_bytes, option_map};
+ghost use Rattle.std.specs.Prelude.{◌≡◌, None, Some, Ok, ◌≤◌, ◌<◌, ◌+◌, ◌++◌, length, true, false, is_err, IfSome, IfOk, IsOkAnd, OnOk, MatchOption, MatchResult, string_bytes, option_map};
 ghost use Rattle.std.specs.Char.{is_ascii, is_ascii_digit};
 ghost use Rattle.std.specs.List.{list_all, prefix_len};
-ghost use Rattle.rust_v0.specs.declared.stop.Stop.TheVariants.{OutOfMemory};
-ghost use Rattle.rust_v0.specs.Identifiers.{ascii_part, decoded, digits_part, hyphenated, identifier_at, if_few, is_puny_digit, length_digits, split_word, without_underscore, word_at};
+ghost use Rattle.idna.specs.declared.Errors.TheVariants.{Invalid, OutOfMemory};
+ghost use Rattle.rust_v0.specs.Identifiers.{ascii_part, decoded, digits_part, hyphenated, identifier_at, if_few, is_decodable, is_puny_digit, length_digits, split_word, without_underscore, word_at};
 ghost use Rattle.rust_v0.specs.State.{identifier_of};
 
 use crate::numbers::{after, value_in};
-use crate::stop::Stop;
 use idna::{Errors, punycode};
 use std::alloc::{AllocError, Global};
 
@@ -182,8 +181,8 @@ pub(crate) fn hyphenated(alloc: Global, word: &[u8]) -> Result<String, AllocErro
 
 /// Whether the word is read as Punycode at all.
 fn is_decodable(word: &[u8], spelled: &str) -> bool
-    ensures { result ≡ (nat_le (length spelled.now) 1024
-        && list_all is_puny_digit (digits_part word.now)) }
+    requires { spelled.now ≡ hyphenated word.now }
+    ensures { result ≡ is_decodable word.now }
 {
     let (_, digits) = split_punycode(word);
     spelled.len() <= MOST_PUNYCODE && is_puny_text(digits)
@@ -200,20 +199,33 @@ fn if_few(chars: Vec<char>) -> Option<Vec<char>>
     }
 }
 
+/// What a decoding gave: nothing where the Punycode is invalid.
+fn if_valid(given: Result<Vec<char>, Errors>) -> Result<Option<Vec<char>>, AllocError>
+    ensures { MatchResult given
+        (λ chars. IsOkAnd result (λ found.
+        option_map (λ v. v.items) found ≡ if_few (Some chars.items)))
+        (λ e. (e ≡ Invalid → result ≡ Ok None) × (e ≡ OutOfMemory → is_err result ≡ true)) }
+{
+    match given {
+        Ok(chars) => Ok(if_few(chars)),
+        Err(Errors::OutOfMemory) => Err(AllocError),
+        Err(Errors::Invalid) => Ok(None),
+    }
+}
+
 /// The characters that Punycode stands for, if it is valid and they are at most 128.
 #[tactic(auto, unfolding(crate::specs::Identifiers::decoded))]
-pub(crate) fn decoded(alloc: Global, word: &[u8], spelled: &str) -> Result<Option<Vec<char>>, Stop>
+pub(crate) fn decoded(
+    alloc: Global,
+    word: &[u8],
+    spelled: &str,
+) -> Result<Option<Vec<char>>, AllocError>
     requires { spelled.now ≡ hyphenated word.now }
-    ensures { MatchResult result
-        (λ found. option_map (λ v. v.items) found ≡ decoded word.now)
-        (λ e. e ≡ OutOfMemory) }
+    ensures gives { IfOk result (λ found. option_map (λ v. v.items) found ≡ decoded word.now) }
+    ensures none { is_decodable word.now ≡ false → result ≡ Ok None }
 {
     if !is_decodable(word, spelled) {
         return Ok(None);
     }
-    match punycode::decode(alloc, spelled) {
-        Ok(chars) => Ok(if_few(chars)),
-        Err(Errors::OutOfMemory) => Err(Stop::OutOfMemory),
-        Err(Errors::Invalid) => Ok(None),
-    }
+    if_valid(punycode::decode(alloc, spelled))
 }

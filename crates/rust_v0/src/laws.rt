@@ -1,7 +1,7 @@
 //! Laws of v0 names and their texts: functions with a contract and no code.
 
 ghost use Rattle.rust_v0.specs.NameLaws.{BoundedText, NamesWithoutText, WorkedName};
-ghost use Rattle.rust_v0.specs.ReadLaws.{HiddenAddsNothing, ReadOnward, WithinLimits};
+ghost use Rattle.rust_v0.specs.ReadLaws.{HiddenAddsNothing, ReadOnward, ReadsAlone, WithinLimits};
 
 /// A name has no text where none of `_R`, `R`, `__R` stands first, where no upper case letter
 /// follows the prefix, or where anything after it isn't ASCII.
@@ -40,4 +40,11 @@ pub fn within_limits()
 /// crate that made the instance adds none.
 pub fn hidden_adds_nothing()
     ensures law { HiddenAddsNothing }
+{}
+
+/// The text of a production is a function of the name, of the place where it is read, of the binders
+/// around it and of whether it is shown. It doesn't depend on the text so far, and no limit changes
+/// it: where more may be read or shown, what had a text has the same one.
+pub fn reads_alone()
+    ensures law { ReadsAlone }
 {}

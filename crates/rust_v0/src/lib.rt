@@ -11,7 +11,8 @@ mod reading;
 mod stop;
 
 pub use crate::laws::{
-    bounded_text, hidden_adds_nothing, names_without_text, read_onward, within_limits, worked_name,
+    bounded_text, hidden_adds_nothing, names_without_text, read_onward, reads_alone, within_limits,
+    worked_name,
 };
 pub use crate::name::demangle_v0;
 

@@ -4,7 +4,7 @@ ghost use Rattle.std.specs.Prelude.{◌≡◌, true, IfOk};
 ghost use Rattle.std.specs.Char.{is_ascii};
 ghost use Rattle.std.specs.List.{list_all};
 ghost use Rattle.rust_v0.specs.Leaves.{counted_in, identifier, letter, number};
-ghost use Rattle.rust_v0.specs.State.{Gives, Skips, identifier_of, is_hidden, is_written, state_of};
+ghost use Rattle.rust_v0.specs.State.{Gives, Skips, identifier_of, is_hidden, state_of};
 
 mod leaves;
 mod lifetimes;
@@ -13,7 +13,7 @@ mod shown;
 
 use crate::identifiers::{Identifier, identifier_at};
 use crate::numbers::{after, counted, number_62};
-use crate::stop::Stop;
+use crate::stop::Fault;
 use std::alloc::Global;
 
 /// What becomes of a text.
@@ -33,16 +33,6 @@ impl Mode {
         match self {
             Mode::Written => false,
             Mode::Hidden => true,
-        }
-    }
-
-    /// Whether texts are written.
-    pub(crate) fn is_written(self) -> bool
-        ensures { result ≡ is_written self }
-    {
-        match self {
-            Mode::Written => true,
-            Mode::Hidden => false,
         }
     }
 }
@@ -85,50 +75,42 @@ impl<'a> Printer<'a> {
     }
 
     /// A number in base 62.
-    pub(crate) fn number(&mut self) -> Result<u64, Stop>
+    pub(crate) fn number(&mut self) -> Result<u64, Fault>
         ensures { Gives (λ n. n) result (state_of self.new) (number (state_of self.old)) }
     {
-        let Some((number, rest)) = number_62(self.rest) else {
-            return Err(Stop::Fault);
-        };
+        let (number, rest) = number_62(self.rest).ok_or(Fault)?;
         self.rest = rest;
         Ok(number)
     }
 
     /// One more than the number after that letter, and zero without it.
-    pub(crate) fn counted(&mut self, letter: u8) -> Result<u64, Stop>
+    pub(crate) fn counted(&mut self, letter: u8) -> Result<u64, Fault>
         ensures { Gives (λ n. n) result (state_of self.new)
             (counted_in letter (state_of self.old)) }
     {
-        let Some((number, rest)) = counted(letter, self.rest) else {
-            return Err(Stop::Fault);
-        };
+        let (number, rest) = counted(letter, self.rest).ok_or(Fault)?;
         self.rest = rest;
         Ok(number)
     }
 
     /// An identifier.
-    pub(crate) fn identifier(&mut self) -> Result<Identifier<'a>, Stop>
+    pub(crate) fn identifier(&mut self) -> Result<Identifier<'a>, Fault>
         ensures gives { Gives identifier_of result (state_of self.new)
             (identifier (state_of self.old)) }
         ensures within { IfOk result (λ i. list_all is_ascii i.word.now ≡ true) }
     {
-        let Some((identifier, rest)) = identifier_at(self.rest) else {
-            return Err(Stop::Fault);
-        };
+        let (identifier, rest) = identifier_at(self.rest).ok_or(Fault)?;
         self.rest = rest;
         Ok(identifier)
     }
 
     /// A letter of either case.
-    pub(crate) fn letter(&mut self) -> Result<u8, Stop>
+    pub(crate) fn letter(&mut self) -> Result<u8, Fault>
         ensures { Gives (λ c. c) result (state_of self.new) (letter (state_of self.old)) }
     {
-        let Some((letter, rest)) = self.rest.split_first() else {
-            return Err(Stop::Fault);
-        };
+        let (letter, rest) = self.rest.split_first().ok_or(Fault)?;
         if !letter.is_ascii_alphabetic() {
-            return Err(Stop::Fault);
+            return Err(Fault);
         }
         self.rest = rest;
         Ok(*letter)

@@ -1,37 +1,65 @@
 //! The reading of productions, by levels.
 
-ghost use Rattle.std.specs.Prelude.{◌≡◌, ◌+◌, ◌-◌, ◌≤◌, length, map, true, false};
+ghost use Rattle.std.specs.Prelude.{◌≡◌, ◌+◌, ◌-◌, ◌≤◌, IfOk, length, map, true, false};
 ghost use Rattle.rust_v0.specs.Grammar.{part_of};
-ghost use Rattle.rust_v0.specs.State.{Gives, Moves, state_of};
-ghost use Rattle.rust_v0.specs.Reads.{back_reference, bindings, binding_name, bound_traits, bounded_trait, close, count, field_name, function_result, hidden, impl_place, item_reading, items, lifetime_argument, more_from, nested_path, part_reading, reads, rule, tagged_parts, value, variant_contents};
+ghost use Rattle.rust_v0.specs.State.{Gives, Moves, MovesTo, Passes, state_of};
+ghost use Rattle.rust_v0.specs.Reads.{back_reference, bindings, binding_name, bound_traits, bounded_trait, close, count, field_name, function_result, hidden, impl_place, item_reading, items, lifetime_argument, more_from, nested_path, part_reading, place_before, reads, rule, shape, shape_of, splat, tagged_parts, value, variant_contents};
 
-use crate::grammar::{Item, Part, Production, head};
+use crate::grammar::{Item, Part, Production, head, is_type};
 use crate::printer::{Mode, Printer};
-use crate::stop::Stop;
+use crate::stop::{Fault, Stop};
+
+/// What a struct or a variant contains.
+#[derive(Clone, Copy)]
+pub(crate) enum Shape {
+    /// Nothing.
+    Unit,
+    /// Constants in parentheses.
+    Tuple,
+    /// Fields with names in braces.
+    Named,
+}
+
+/// What a struct or a variant contains, by its letter.
+fn shape_of(letter: u8) -> Option<Shape>
+    ensures { result ≡ shape_of letter }
+{
+    match letter {
+        b'U' => Some(Shape::Unit),
+        b'T' => Some(Shape::Tuple),
+        b'S' => Some(Shape::Named),
+        _ => None,
+    }
+}
 
 impl<'a> Printer<'a> {
     /// Passes over the tag of a production, and gives its parts.
-    fn head(&mut self, production: Production) -> Result<&'static [Part], Stop>
+    fn head(&mut self, production: Production) -> Result<&'static [Part], Fault>
         ensures { Gives (λ parts. map part_of parts.now) result (state_of self.new)
             (tagged_parts production (state_of self.old)) }
     {
-        let Some((parts, rest)) = head(production, self.rest) else {
-            return Err(Stop::Fault);
-        };
+        let (parts, rest) = head(production, self.rest).ok_or(Fault)?;
         self.rest = rest;
         Ok(parts)
     }
 
     /// Counts a production.
-    fn count(&mut self) -> Result<(), Stop>
-        ensures { Moves result (state_of self.new) (count (state_of self.old)) }
+    fn count(&mut self) -> Result<(), Fault>
+        ensures { Passes result (state_of self.new) (count (state_of self.old)) }
     {
-        match self.left.checked_sub(1) {
-            Some(left) => {
-                self.left = left;
-                Ok(())
-            }
-            None => Err(Stop::Fault),
+        self.left = self.left.checked_sub(1).ok_or(Fault)?;
+        Ok(())
+    }
+
+    /// The `w` that may stand before a type.
+    #[tactic(auto, unfolding(crate::specs::Reads::splat))]
+    fn splat(&mut self, production: Production) -> Result<(), Stop>
+        ensures { Moves result (state_of self.new) (splat production (state_of self.old)) }
+    {
+        if is_type(production) && self.skip(b'w') {
+            self.say("#[splat] ")
+        } else {
+            Ok(())
         }
     }
 
@@ -41,6 +69,32 @@ impl<'a> Printer<'a> {
         ensures within { result ≤ length self.now.name.now }
     {
         self.name.len().saturating_sub(self.rest.len() + 1)
+    }
+
+    /// The place that a reference names: one before that of its own tag.
+    #[tactic(auto, unfolding(crate::specs::Reads::place_before))]
+    fn place_before(&mut self) -> Result<usize, Fault>
+        ensures gives { Gives (λ at. at) result (state_of self.new)
+            (place_before (state_of self.old)) }
+        ensures within { IfOk result (λ at. at ≤ length self.new.name.now) }
+    {
+        let here = self.here();
+        let at = self.number()?;
+        if at < here as u64 {
+            Ok(at as usize)
+        } else {
+            Err(Fault)
+        }
+    }
+
+    /// What a struct or a variant contains, by its letter.
+    fn shape(&mut self) -> Result<Shape, Fault>
+        ensures { Gives (λ x. x) result (state_of self.new) (shape (state_of self.old)) }
+    {
+        let (letter, rest) = self.rest.split_first().ok_or(Fault)?;
+        let shape = shape_of(*letter).ok_or(Fault)?;
+        self.rest = rest;
+        Ok(shape)
     }
 
     /// A lifetime that is a generic argument.
@@ -88,10 +142,8 @@ impl<'a> Printer<'a> {
     pub(crate) fn read(&mut self, levels: u32, production: Production) -> Result<(), Stop>
         ensures { Moves result (state_of self.new) (reads levels production (state_of self.old)) }
     {
-        if levels == 0 {
-            return Err(Stop::Fault);
-        }
-        self.rule(levels - 1, production)
+        let inner = levels.checked_sub(1).ok_or(Fault)?;
+        self.rule(inner, production)
     }
 
     /// Reads the parts of a production, under the binders around it.
@@ -103,6 +155,7 @@ impl<'a> Printer<'a> {
     {
         let bound = self.bound;
         self.count()?;
+        self.splat(production)?;
         let parts = self.head(production)?;
         for part in parts {
             self.part(inner, *part)?;
@@ -175,16 +228,12 @@ impl<'a> Printer<'a> {
         ensures { Moves result (state_of self.new)
             (back_reference (reads inner) production (state_of self.old)) }
     {
-        let here = self.here();
-        let at = self.number()?;
-        if at >= here as u64 {
-            return Err(Stop::Fault);
-        }
+        let at = self.place_before()?;
         if self.mode.is_hidden() {
             return Ok(());
         }
         let rest = self.rest;
-        self.rest = &self.name[at as usize..];
+        self.rest = &self.name[at..];
         self.read(inner, production)?;
         self.rest = rest;
         Ok(())
@@ -282,7 +331,7 @@ impl<'a> Printer<'a> {
     #[cycle(read)]
     #[tactic(auto, using(crate::proofs::ReadLemmas::bindings_none, crate::proofs::ReadLemmas::bindings_one))]
     fn bindings(&mut self, inner: u32, is_open: bool) -> Result<bool, Stop>
-        ensures { Gives (λ b. b) result (state_of self.new)
+        ensures { MovesTo (λ b. b) result (state_of self.new)
             (bindings (reads inner) is_open false (length self.old.rest.now) (state_of self.old)) }
     {
         let mut is_after = is_open;
@@ -323,20 +372,19 @@ impl<'a> Printer<'a> {
         ensures { Moves result (state_of self.new)
             (variant_contents (reads inner) (state_of self.old)) }
     {
-        if self.skip(b'U') {
-            return Ok(());
+        match self.shape()? {
+            Shape::Unit => Ok(()),
+            Shape::Tuple => {
+                self.say("(")?;
+                self.list(inner, Item::ConstantItem, ", ", "")?;
+                self.say(")")
+            }
+            Shape::Named => {
+                self.say(" { ")?;
+                self.list(inner, Item::Field, ", ", "")?;
+                self.say(" }")
+            }
         }
-        if self.skip(b'T') {
-            self.say("(")?;
-            self.list(inner, Item::ConstantItem, ", ", "")?;
-            return self.say(")");
-        }
-        if !self.skip(b'S') {
-            return Err(Stop::Fault);
-        }
-        self.say(" { ")?;
-        self.list(inner, Item::Field, ", ", "")?;
-        self.say(" }")
     }
 
     /// The result of a function, which isn't shown where it is `()`.

@@ -2,6 +2,10 @@
 
 use std::alloc::AllocError;
 
+/// The bytes are no v0 name, or a limit is passed: all that can stop what takes no memory.
+#[derive(Clone, Copy)]
+pub(crate) struct Fault;
+
 /// Why a name has no text.
 #[derive(Clone, Copy)]
 pub(crate) enum Stop {
@@ -11,11 +15,22 @@ pub(crate) enum Stop {
     OutOfMemory,
 }
 
+impl From<Fault> for Stop {
+    ghost use Rattle.std.specs.Prelude.{◌≡◌};
+    ghost use Rattle.rust_v0.specs.declared.stop.Stop.TheVariants as variants;
+
+    ghost from_gives = { λ _ e. e ≡ variants.Fault };
+
+    fn from(_fault: Fault) -> Stop {
+        Stop::Fault
+    }
+}
+
 impl From<AllocError> for Stop {
     ghost use Rattle.std.specs.Prelude.{◌≡◌};
-    ghost use Rattle.rust_v0.specs.declared.stop.Stop.TheVariants.{OutOfMemory};
+    ghost use Rattle.rust_v0.specs.declared.stop.Stop.TheVariants as variants;
 
-    ghost from_gives = { λ _ e. e ≡ OutOfMemory };
+    ghost from_gives = { λ _ e. e ≡ variants.OutOfMemory };
 
     fn from(_error: AllocError) -> Stop {
         Stop::OutOfMemory

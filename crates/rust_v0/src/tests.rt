@@ -1,7 +1,7 @@
 //! Names and their texts, of RFC 2603, rustc and rustc-demangle 0.1.28.
 
 use crate::demangle_v0;
-use std::alloc::Global;
+use std::alloc::{AllocError, Global};
 
 // Crates and nested paths.
 const CRATES_NESTED_PATHS: [(&str, &str); 11] = [
@@ -183,12 +183,13 @@ const CONSTANTS: [(&str, &str); 18] = [
 ];
 
 // Identifiers.
-const IDENTIFIERS: [(&str, &str); 7] = [
+const IDENTIFIERS: [(&str, &str); 8] = [
     ("_RNvC1au6f_5gaa", "a::føø"),
     ("_RNvC1au4fq9h", "a::🤦"),
     ("_RNvC1au9gre_6ka8i", "a::größe"),
     ("_RNvC1au3zzz", "a::箥"),
     ("_RNvC1au5abc_A", "a::punycode{abc-A}"),
+    ("_RNvC1au1z", "a::punycode{z}"),
     ("_RNvC1a0", "a"),
     ("_RNCNvC1a1b3foo", "a::b::{closure:foo#0}"),
 ];
@@ -225,8 +226,9 @@ const ODD_REFERENCES: [(&str, &str); 5] = [
 ];
 
 // No names: cut, of another version, with a digit, tag or place that is none, too deep, too long.
-const NONE: [&str; 30] = [
+const NONE: [&str; 38] = [
     "_R",
+    "_RN",
     "_RNvC1a",
     "_RNvC1a9bc",
     "_RNvC1a1b_x",
@@ -256,7 +258,22 @@ const NONE: [&str; 30] = [
     "_RC4ab_",
     "_RNvC1a1bC1",
     "_RINvC1a1fFG_DNtC1b1TEL1_EuE",
+    "_RINvC1a1fDEE",
+    "_RINvC1a1fLlYGhA16ahyf_E",
+    "_RINvC1a1fFG_FGlYGhA16ahyd_EuEuE",
+    "_RINvC1a1fKj0E",
+    "_RINvC1a1fKb10000000000000000_E",
+    "_RINvC1a1fKVC1aXE",
+    "_RINvC1a1fwwmE",
 ];
+
+// Pairs of pairs, the second of each a reference to the first: 14 of them are 49,153 productions, 15
+// are 98,305.
+const PAIRS_14: &str =
+    "_RINvC1a1fTTTTTTTTTTTTTTuBl_EBk_EBj_EBi_EBh_EBg_EBf_EBe_EBd_EBc_EBb_EBa_EB9_EB8_EE";
+
+const PAIRS_15: &str =
+    "_RINvC1a1fTTTTTTTTTTTTTTTuBm_EBl_EBk_EBj_EBi_EBh_EBg_EBf_EBe_EBd_EBc_EBb_EBa_EB9_EB8_EE";
 
 // A plain name, one with Punycode, one with a string.
 const GROWTHS: [(&str, &str); 3] = [
@@ -357,6 +374,51 @@ fn damaged_names_have_none(rt: HostRuntime) {
     for name in NONE {
         assert_eq!(rt; compared(rt.alloc(), name, ""), 2, "{name}");
     }
+}
+
+/// 0 where a name has no text, 1 where it has one, 2 where memory was refused.
+fn has_text(alloc: Global, name: &str) -> u8 {
+    match demangle_v0(alloc, name) {
+        Ok(found) => u8::from(found.is_some()),
+        Err(_) => 2,
+    }
+}
+
+/// A function with one argument: slices of `u32`, so many inside one another.
+fn slices(alloc: Global, slice: &str, count: u32) -> Result<String, AllocError> {
+    let mut name = String::from_str(alloc, "_RINvC1a1f")?;
+    for _ in 0..count {
+        name.push_str(slice)?;
+    }
+    name.push_str("mE")?;
+    Ok(name)
+}
+
+/// Whether a function of so many slices has a text, as `has_text` says it.
+fn slices_have_text(alloc: Global, slice: &str, count: u32) -> u8 {
+    match slices(alloc, slice, count) {
+        Ok(name) => has_text(alloc, name.as_str()),
+        Err(_) => 2,
+    }
+}
+
+#[test]
+fn five_hundred_levels_are_read(rt: HostRuntime) {
+    // The path and `u32` are two of them.
+    assert_eq!(rt; slices_have_text(rt.alloc(), "S", 498), 1);
+    assert_eq!(rt; slices_have_text(rt.alloc(), "S", 499), 0);
+}
+
+#[test]
+fn a_type_and_the_w_before_it_are_one_level(rt: HostRuntime) {
+    assert_eq!(rt; slices_have_text(rt.alloc(), "wS", 498), 1);
+    assert_eq!(rt; slices_have_text(rt.alloc(), "wS", 499), 0);
+}
+
+#[test]
+fn productions_are_counted(rt: HostRuntime) {
+    assert_eq!(rt; has_text(rt.alloc(), PAIRS_14), 1);
+    assert_eq!(rt; has_text(rt.alloc(), PAIRS_15), 0);
 }
 
 // Each growth is refused in turn by `tools/refuse_growths`.

@@ -3,14 +3,14 @@
 ghost use Rattle.std.specs.Prelude.{◌≡◌, true, map};
 ghost use Rattle.std.specs.Char.{is_ascii};
 ghost use Rattle.std.specs.List.{list_all};
-ghost use Rattle.rust_v0.specs.State.{Moves, identifier_of, state_of};
+ghost use Rattle.rust_v0.specs.State.{Gives, Moves, identifier_of, state_of};
 ghost use Rattle.rust_v0.specs.Shown.{say_chars};
 ghost use Rattle.rust_v0.specs.Leaves.{abi, abi_name, abi_word, hyphen, leaf_reading, root, say_abi_word, say_named, say_space, say_spaced, segment, unsafety};
 
 use crate::grammar::Leaf;
 use crate::identifiers::{Identifier, word_at};
 use crate::printer::Printer;
-use crate::stop::Stop;
+use crate::stop::{Fault, Stop};
 
 impl<'a> Printer<'a> {
     /// Adds the name of a namespace that is shown.
@@ -100,18 +100,25 @@ impl<'a> Printer<'a> {
         Ok(())
     }
 
-    /// The word of an ABI, with hyphens.
-    #[tactic(auto, unfolding(crate::specs::Leaves::abi_word))]
-    fn abi_word(&mut self) -> Result<(), Stop>
-        ensures { Moves result (state_of self.new) (abi_word (state_of self.old)) }
+    /// The word of an ABI, which isn't empty.
+    fn abi_word(&mut self) -> Result<&'a [u8], Fault>
+        ensures { Gives (λ word. word.now) result (state_of self.new)
+            (abi_word (state_of self.old)) }
     {
-        let Some((word, rest)) = word_at(self.rest) else {
-            return Err(Stop::Fault);
-        };
-        self.rest = rest;
+        let (word, rest) = word_at(self.rest).ok_or(Fault)?;
         if word.is_empty() {
-            return Err(Stop::Fault);
+            return Err(Fault);
         }
+        self.rest = rest;
+        Ok(word)
+    }
+
+    /// Adds the word of an ABI, with hyphens.
+    #[tactic(auto, unfolding(crate::specs::Leaves::say_abi_word))]
+    fn say_abi_word(&mut self) -> Result<(), Stop>
+        ensures { Moves result (state_of self.new) (say_abi_word (state_of self.old)) }
+    {
+        let word = self.abi_word()?;
         self.say_hyphens(word)
     }
 
@@ -123,7 +130,7 @@ impl<'a> Printer<'a> {
         if self.skip(b'C') {
             self.say("C")
         } else {
-            self.abi_word()
+            self.say_abi_word()
         }
     }
 

@@ -1,11 +1,11 @@
 //! Lifetimes, and the binders that name them.
 
 ghost use Rattle.std.specs.Prelude.{◌≡◌, ◌+◌, ◌<◌, ◌^◌};
-ghost use Rattle.rust_v0.specs.State.{Moves, state_of};
-ghost use Rattle.rust_v0.specs.Leaves.{bind, bind_some, binder, more_levels, object_lifetime, reference_lifetime, say_level, say_lifetime, say_object_lifetime, say_reference_lifetime};
+ghost use Rattle.rust_v0.specs.State.{Gives, Moves, state_of};
+ghost use Rattle.rust_v0.specs.Leaves.{bind, bind_some, binder, lifetime_index, more_levels, object_lifetime, reference_lifetime, say_level, say_lifetime, say_object_lifetime, say_reference_lifetime};
 
 use crate::printer::Printer;
-use crate::stop::Stop;
+use crate::stop::{Fault, Stop};
 
 impl<'a> Printer<'a> {
     /// Adds the name of a lifetime that is bound: level 0 is the outermost.
@@ -33,10 +33,8 @@ impl<'a> Printer<'a> {
         if index == 0 {
             return self.say("'_");
         }
-        if self.bound < index {
-            return Err(Stop::Fault);
-        }
-        self.say_level(self.bound - index)
+        let level = self.bound.checked_sub(index).ok_or(Fault)?;
+        self.say_level(level)
     }
 
     /// Adds the names of so many lifetimes from that level on, after others.
@@ -79,10 +77,8 @@ impl<'a> Printer<'a> {
         if self.mode.is_hidden() || count == 0 {
             return Ok(());
         }
-        match self.bound.checked_add(count) {
-            Some(bound) => self.bind_some(count, bound),
-            None => Err(Stop::Fault),
-        }
+        let bound = self.bound.checked_add(count).ok_or(Fault)?;
+        self.bind_some(count, bound)
     }
 
     /// The lifetimes that are bound from here on, if there are some.
@@ -130,15 +126,24 @@ impl<'a> Printer<'a> {
         self.say_lifetime(index)
     }
 
+    /// The number of the lifetime of a trait object.
+    #[tactic(auto, unfolding(crate::specs::Leaves::lifetime_index))]
+    fn lifetime_index(&mut self) -> Result<u64, Fault>
+        ensures { Gives (λ n. n) result (state_of self.new)
+            (lifetime_index (state_of self.old)) }
+    {
+        if !self.skip(b'L') {
+            return Err(Fault);
+        }
+        self.number()
+    }
+
     /// The lifetime of a trait object.
     #[tactic(auto, unfolding(crate::specs::Leaves::object_lifetime))]
     pub(crate) fn object_lifetime(&mut self) -> Result<(), Stop>
         ensures { Moves result (state_of self.new) (object_lifetime (state_of self.old)) }
     {
-        if !self.skip(b'L') {
-            return Err(Stop::Fault);
-        }
-        let index = self.number()?;
+        let index = self.lifetime_index()?;
         self.say_object_lifetime(index)
     }
 }

@@ -1,16 +1,16 @@
 //! Literals: integers, `bool`s, characters, strings.
 
-ghost use Rattle.std.specs.Prelude.{◌≡◌, ◌<◌, IfOk, MatchOption, true, false, chars};
+ghost use Rattle.std.specs.Prelude.{◌≡◌, ◌<◌, None, Some, IfOk, MatchOption, true, false, chars};
 ghost use Rattle.std.specs.Str.{is_utf8};
 ghost use Rattle.std.specs.Char.{is_ascii};
 ghost use Rattle.std.specs.List.{list_all};
 ghost use Rattle.rust_v0.specs.State.{Gives, Moves, state_of};
 ghost use Rattle.rust_v0.specs.Shown.{say_quoted};
-ghost use Rattle.rust_v0.specs.Leaves.{as_scalar, boolean, bytes_of, character, hex_digits, integer, literal, nibble_of, say_boolean, say_integer, say_string, scalar, sign, string};
+ghost use Rattle.rust_v0.specs.Leaves.{as_scalar, boolean, boolean_text, bytes_of, character, digit_pairs, hex_digits, integer, literal, nibble_of, say_integer, say_string, scalar, sign, string};
 
 use crate::numbers::{nibbles, value_in};
 use crate::printer::Printer;
-use crate::stop::Stop;
+use crate::stop::{Fault, Stop};
 use std::alloc::{AllocError, Global};
 
 /// The value of a hexadecimal digit.
@@ -48,6 +48,18 @@ fn scalar_of(number: u64) -> Option<char>
     char::from_u32(number as u32)
 }
 
+/// `false` or `true`.
+fn boolean_text(number: u64) -> Option<&'static str>
+    ensures { MatchOption result (boolean_text number ≡ None)
+        (λ text. boolean_text number ≡ Some text.now) }
+{
+    match number {
+        0 => Some("false"),
+        1 => Some("true"),
+        _ => None,
+    }
+}
+
 /// Bytes as text, if they are UTF-8.
 #[tactic(auto, using(crate::proofs::AsciiLemmas::utf8_yes, crate::proofs::AsciiLemmas::utf8_no))]
 fn text_of(bytes: &[u8]) -> Option<&str>
@@ -69,14 +81,12 @@ fn chars_of(alloc: Global, text: &str) -> Result<Vec<char>, AllocError>
 
 impl<'a> Printer<'a> {
     /// Hexadecimal digits, up to their `_`.
-    fn hex_digits(&mut self) -> Result<&'a [u8], Stop>
+    fn hex_digits(&mut self) -> Result<&'a [u8], Fault>
         ensures gives { Gives (λ digits. digits.now) result (state_of self.new)
             (hex_digits (state_of self.old)) }
         ensures within { IfOk result (λ digits. list_all is_ascii digits.now ≡ true) }
     {
-        let Some((digits, rest)) = nibbles(self.rest) else {
-            return Err(Stop::Fault);
-        };
+        let (digits, rest) = nibbles(self.rest).ok_or(Fault)?;
         self.rest = rest;
         Ok(digits)
     }
@@ -118,25 +128,11 @@ impl<'a> Printer<'a> {
 
     /// The value of hexadecimal digits of at most 64 bits.
     #[tactic(auto, unfolding(crate::specs::Leaves::literal))]
-    fn literal(&mut self) -> Result<u64, Stop>
+    fn literal(&mut self) -> Result<u64, Fault>
         ensures { Gives (λ n. n) result (state_of self.new) (literal (state_of self.old)) }
     {
         let digits = self.hex_digits()?;
-        match value_in(16, digits) {
-            Some(number) => Ok(number),
-            None => Err(Stop::Fault),
-        }
-    }
-
-    /// Adds `false` or `true`.
-    fn say_boolean(&mut self, number: u64) -> Result<(), Stop>
-        ensures { Moves result (state_of self.new) (say_boolean number (state_of self.old)) }
-    {
-        match number {
-            0 => self.say("false"),
-            1 => self.say("true"),
-            _ => Err(Stop::Fault),
-        }
+        value_in(16, digits).ok_or(Fault)
     }
 
     /// `false` or `true`.
@@ -145,19 +141,17 @@ impl<'a> Printer<'a> {
         ensures { Moves result (state_of self.new) (boolean (state_of self.old)) }
     {
         let number = self.literal()?;
-        self.say_boolean(number)
+        let text = boolean_text(number).ok_or(Fault)?;
+        self.say(text)
     }
 
     /// The character of a literal.
     #[tactic(auto, unfolding(crate::specs::Leaves::scalar))]
-    fn scalar(&mut self) -> Result<char, Stop>
+    fn scalar(&mut self) -> Result<char, Fault>
         ensures { Gives (λ c. c) result (state_of self.new) (scalar (state_of self.old)) }
     {
         let number = self.literal()?;
-        match scalar_of(number) {
-            Some(c) => Ok(c),
-            None => Err(Stop::Fault),
-        }
+        scalar_of(number).ok_or(Fault)
     }
 
     /// A character.
@@ -186,13 +180,24 @@ impl<'a> Printer<'a> {
     fn say_string(&mut self, bytes: &[u8]) -> Result<(), Stop>
         ensures { Moves result (state_of self.new) (say_string bytes.now (state_of self.old)) }
     {
-        let Some(text) = text_of(bytes) else {
-            return Err(Stop::Fault);
-        };
+        let text = text_of(bytes).ok_or(Fault)?;
         let chars = chars_of(self.alloc, text)?;
         self.say("\"")?;
         self.say_quoted(&chars)?;
         self.say("\"")
+    }
+
+    /// Hexadecimal digits, two for each byte.
+    #[tactic(auto, unfolding(crate::specs::Leaves::digit_pairs))]
+    fn digit_pairs(&mut self) -> Result<&'a [u8], Fault>
+        ensures { Gives (λ digits. digits.now) result (state_of self.new)
+            (digit_pairs (state_of self.old)) }
+    {
+        let digits = self.hex_digits()?;
+        if digits.len() % 2 == 1 {
+            return Err(Fault);
+        }
+        Ok(digits)
     }
 
     /// A string.
@@ -200,10 +205,7 @@ impl<'a> Printer<'a> {
     pub(crate) fn string(&mut self) -> Result<(), Stop>
         ensures { Moves result (state_of self.new) (string (state_of self.old)) }
     {
-        let digits = self.hex_digits()?;
-        if digits.len() % 2 == 1 {
-            return Err(Stop::Fault);
-        }
+        let digits = self.digit_pairs()?;
         let bytes = bytes_of(self.alloc, digits)?;
         self.say_string(&bytes)
     }

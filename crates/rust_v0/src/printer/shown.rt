@@ -9,7 +9,7 @@ ghost use Rattle.rust_v0.specs.Shown.{say_char, say_chars, say_decimal, say_esca
 
 use crate::identifiers::{Identifier, decoded, hyphenated};
 use crate::printer::Printer;
-use crate::stop::Stop;
+use crate::stop::{Fault, Stop};
 use itoa::Buffer;
 
 impl<'a> Printer<'a> {
@@ -21,13 +21,8 @@ impl<'a> Printer<'a> {
         if self.mode.is_hidden() {
             return Ok(());
         }
-        if self.room < text.len() {
-            return Err(Stop::Fault);
-        }
-        self.room -= text.len();
-        if self.mode.is_written() {
-            self.text.push_str(text)?;
-        }
+        self.room = self.room.checked_sub(text.len()).ok_or(Fault)?;
+        self.text.push_str(text)?;
         Ok(())
     }
 

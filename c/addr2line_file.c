@@ -5,6 +5,7 @@
 
 #include "addr2line_file.h"
 
+#include <errno.h>
 #include <fcntl.h>
 #include <stdlib.h>
 #include <string.h>
@@ -15,35 +16,84 @@
 struct addr2line_mapped {
     void *bytes;
     size_t size;
+    int is_mapped;
     struct addr2line_mapped *next;
 };
 
-/* Maps an open file; a file without a byte is mapped as none. */
-static addr2line_status map_open(int fd, addr2line_file *file, struct addr2line_mapped *node)
+/* Reads so many bytes of an open file; errno where it fails, EIO where the file has fewer by then. */
+static int read_whole(int fd, unsigned char *bytes, size_t size)
 {
-    struct stat about;
-    if (fstat(fd, &about) != 0 || !S_ISREG(about.st_mode)) {
-        return ADDR2LINE_CANNOT_READ;
-    }
-    node->bytes = NULL;
-    node->size = (size_t)about.st_size;
-    if (node->size != 0) {
-        node->bytes = mmap(NULL, node->size, PROT_READ, MAP_PRIVATE, fd, 0);
-        if (node->bytes == MAP_FAILED) {
-            return ADDR2LINE_CANNOT_READ;
+    size_t done = 0;
+    while (done < size) {
+        ssize_t got = read(fd, bytes + done, size - done);
+        if (got < 0 && errno == EINTR) {
+            continue;
         }
+        if (got <= 0) {
+            return got < 0 ? errno : EIO;
+        }
+        done += (size_t)got;
     }
-    node->next = file->mapped;
-    file->mapped = node;
-    return ADDR2LINE_OK;
+    return 0;
 }
 
-/* Maps the file at a path; what is mapped goes when the file is closed. */
-static addr2line_status map_path(const char *path, addr2line_file *file, struct addr2line_mapped **mapped)
+/* The bytes of an open file that has some, by a mapping where that is asked for and can be; 0 or errno. */
+static int get_bytes(int fd, uint32_t flags, struct addr2line_mapped *node)
 {
-    addr2line_status status = ADDR2LINE_CANNOT_READ;
+    int error;
+    if ((flags & ADDR2LINE_FILE_MAP) != 0) {
+        node->bytes = mmap(NULL, node->size, PROT_READ, MAP_PRIVATE, fd, 0);
+        if (node->bytes != MAP_FAILED) {
+            node->is_mapped = 1;
+            return 0;
+        }
+    }
+    node->bytes = malloc(node->size);
+    if (node->bytes == NULL) {
+        return ENOMEM;
+    }
+    error = read_whole(fd, (unsigned char *)node->bytes, node->size);
+    if (error != 0) {
+        free(node->bytes);
+    }
+    return error;
+}
+
+/* The bytes of an open file, none of one without a byte; 0 or errno. */
+static int get_file(int fd, uint32_t flags, struct addr2line_mapped *node)
+{
+    struct stat about;
+    if (fstat(fd, &about) != 0) {
+        return errno;
+    }
+    if (!S_ISREG(about.st_mode)) {
+        return EINVAL;
+    }
+    if ((uintmax_t)about.st_size > SIZE_MAX) {
+        return EFBIG;
+    }
+    node->bytes = NULL;
+    node->is_mapped = 0;
+    node->size = (size_t)about.st_size;
+    return node->size == 0 ? 0 : get_bytes(fd, flags, node);
+}
+
+/* What becomes of a path that couldn't be read. */
+static addr2line_status refuse(addr2line_file *file, struct addr2line_mapped *node, int error)
+{
+    free(node);
+    if (error == ENOMEM) {
+        return ADDR2LINE_OUT_OF_MEMORY;
+    }
+    file->error = error;
+    return ADDR2LINE_CANNOT_READ;
+}
+
+/* The bytes of the file at a path; they go when the file is closed. */
+static addr2line_status get_path(const char *path, addr2line_file *file, struct addr2line_mapped **mapped)
+{
     struct addr2line_mapped *node;
-    int fd;
+    int error, fd;
     *mapped = NULL;
     node = (struct addr2line_mapped *)malloc(sizeof *node);
     if (node == NULL) {
@@ -51,40 +101,60 @@ static addr2line_status map_path(const char *path, addr2line_file *file, struct 
     }
     /* Opening a named pipe would wait for its writer, and debug information chooses the paths of split files. */
     fd = open(path, O_RDONLY | O_NONBLOCK | O_CLOEXEC);
-    if (fd >= 0) {
-        status = map_open(fd, file, node);
-        close(fd);
+    if (fd < 0) {
+        return refuse(file, node, errno);
     }
-    if (status != ADDR2LINE_OK) {
-        free(node);
-        return status;
+    error = get_file(fd, file->flags, node);
+    close(fd);
+    if (error != 0) {
+        return refuse(file, node, error);
     }
+    node->next = file->mapped;
+    file->mapped = node;
     *mapped = node;
     return ADDR2LINE_OK;
 }
 
-addr2line_status addr2line_file_open(const char *path, const char *sup_path, addr2line_file *file)
+addr2line_status addr2line_file_open_with(const char *path, const char *sup_path, uint32_t flags,
+                                          addr2line_file *file)
 {
     struct addr2line_mapped *main_file;
     struct addr2line_mapped *sup_file = NULL;
     addr2line_status status;
     addr2line_file_close(file);
-    status = map_path(path, file, &main_file);
+    if ((flags & ~(ADDR2LINE_DECOMPRESS | ADDR2LINE_FILE_MAP)) != 0) {
+        return ADDR2LINE_BAD_FLAGS;
+    }
+    file->flags = flags;
+    status = get_path(path, file, &main_file);
     if (status == ADDR2LINE_OK && sup_path != NULL) {
-        status = map_path(sup_path, file, &sup_file);
+        status = get_path(sup_path, file, &sup_file);
         if (status == ADDR2LINE_OK && sup_file->size == 0) {
             status = ADDR2LINE_NOT_ELF;
         }
     }
     if (status == ADDR2LINE_OK) {
-        status = addr2line_open(main_file->bytes, main_file->size,
-                                sup_file == NULL ? NULL : sup_file->bytes,
-                                sup_file == NULL ? 0 : sup_file->size, &file->handle);
+        status = addr2line_open_with(main_file->bytes, main_file->size,
+                                     sup_file == NULL ? NULL : sup_file->bytes,
+                                     sup_file == NULL ? 0 : sup_file->size,
+                                     flags & ADDR2LINE_DECOMPRESS, &file->handle);
     }
     if (status != ADDR2LINE_OK) {
+        int error = file->error;
         addr2line_file_close(file);
+        file->error = error;
     }
     return status;
+}
+
+addr2line_status addr2line_file_open(const char *path, const char *sup_path, addr2line_file *file)
+{
+    return addr2line_file_open_with(path, sup_path, ADDR2LINE_FILE_MAP, file);
+}
+
+int addr2line_file_errno(const addr2line_file *file)
+{
+    return file->error;
 }
 
 void addr2line_file_close(addr2line_file *file)
@@ -93,11 +163,14 @@ void addr2line_file_close(addr2line_file *file)
     while (file->mapped != NULL) {
         struct addr2line_mapped *node = file->mapped;
         file->mapped = node->next;
-        if (node->bytes != NULL) {
+        if (node->is_mapped) {
             munmap(node->bytes, node->size);
+        } else {
+            free(node->bytes);
         }
         free(node);
     }
+    file->error = 0;
 }
 
 /* How many bytes follow the first byte of a character in UTF-8, -1 for a byte that begins none. */
@@ -181,7 +254,7 @@ static addr2line_status answer_by_path(addr2line_file *file, uint64_t token, con
     if (!is_utf8(path)) {
         return ADDR2LINE_PATH_NOT_UTF8;
     }
-    status = map_path(path, file, &mapped);
+    status = get_path(path, file, &mapped);
     if (status == ADDR2LINE_OUT_OF_MEMORY) {
         return status;
     }

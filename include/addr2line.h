@@ -31,7 +31,7 @@ extern "C" {
 #endif
 
 /* What addr2line_version gives for this header. */
-#define ADDR2LINE_VERSION 2
+#define ADDR2LINE_VERSION 3
 
 /* What a call comes to. */
 typedef uint32_t addr2line_status;
@@ -48,6 +48,8 @@ typedef uint32_t addr2line_status;
 #define ADDR2LINE_CLOSED 4u
 /* The split file that was given is that of another unit, which was answered as if there were none. */
 #define ADDR2LINE_OTHER_UNIT 5u
+/* A bit of `flags` is none of the call's flags; nothing was done. */
+#define ADDR2LINE_BAD_FLAGS 6u
 
 /* Memory was refused. Nothing is lost: the same call may be made again. */
 #define ADDR2LINE_OUT_OF_MEMORY 16u
@@ -185,6 +187,17 @@ addr2line_status addr2line_status_text(addr2line_status status, char *text, size
 addr2line_status addr2line_open(const void *bytes, size_t size, const void *sup, size_t sup_size,
                                 addr2line_handle *handle);
 
+/* Sections that are compressed by zlib are decompressed, those of split and supplementary files too. */
+#define ADDR2LINE_DECOMPRESS 1u
+
+/*
+ * addr2line_open by `flags`: 0, or ADDR2LINE_DECOMPRESS. Decompressed sections take as much memory as
+ * their bytes; a damaged stream is refused ADDR2LINE_BAD_ELF, and one that isn't zlib's
+ * ADDR2LINE_COMPRESSED_SECTION. ADDR2LINE_BAD_FLAGS closes the handle, as any refusal does.
+ */
+addr2line_status addr2line_open_with(const void *bytes, size_t size, const void *sup, size_t sup_size,
+                                     uint32_t flags, addr2line_handle *handle);
+
 /*
  * Closes a handle: all its memory is given back, and the bytes of its files may go. A closed one stays
  * so.
@@ -210,11 +223,12 @@ addr2line_status addr2line_find_location(addr2line_handle *handle, uint64_t addr
 /*
  * The frames at an address: the innermost inlined function first, the one that is no inlined call
  * last. `count` is how many there are, 0 where nothing is known; where that is above `capacity`, or
- * the text has no room, the status is ADDR2LINE_TOO_SMALL. `flags` is 0,
- * ADDR2LINE_DEMANGLE or ADDR2LINE_DEMANGLE_RUST.
+ * the text has no room, the status is ADDR2LINE_TOO_SMALL. `flags` are bits: 0, ADDR2LINE_DEMANGLE,
+ * ADDR2LINE_DEMANGLE_RUST, or both, which is the same as the second.
  *
  * ADDR2LINE_WAITS, with 0 frames, where a split file has to be answered first; then make the call
- * again. Refused by the first fault of a unit that has the address. Takes memory where something is
+ * again. ADDR2LINE_BAD_FLAGS, with 0 frames too, where another bit is set. Refused by the first fault of
+ * a unit that has the address. Takes memory where something is
  * read that wasn't before, where names are demangled, and where more than 16 functions are inlined at
  * the address.
  */

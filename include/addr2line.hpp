@@ -44,6 +44,7 @@ enum class Status : addr2line_status {
     nothing = ADDR2LINE_NOTHING,
     closed = ADDR2LINE_CLOSED,
     other_unit = ADDR2LINE_OTHER_UNIT,
+    bad_flags = ADDR2LINE_BAD_FLAGS,
     out_of_memory = ADDR2LINE_OUT_OF_MEMORY,
     cannot_read = ADDR2LINE_CANNOT_READ,
     not_elf = ADDR2LINE_NOT_ELF,
@@ -156,6 +157,18 @@ struct Range {
     std::uint64_t begin = 0;
     std::uint64_t end = 0;
 };
+
+/* How a file is opened; what each means says addr2line.h, of map addr2line_file.h. */
+enum class Open : std::uint32_t {
+    plain = 0,
+    decompress = ADDR2LINE_DECOMPRESS,
+    map = ADDR2LINE_FILE_MAP
+};
+
+constexpr Open operator|(Open one, Open other) noexcept
+{
+    return static_cast<Open>(static_cast<std::uint32_t>(one) | static_cast<std::uint32_t>(other));
+}
 
 /* Whether names stand as in the source. */
 enum class Demangle : std::uint32_t {
@@ -338,33 +351,41 @@ public:
     Context() noexcept = default;
 
     /* The ELF file at a path, and its supplementary file (what dwz -m wrote). */
-    explicit Context(const std::string &path) : Context(path.c_str(), path, nullptr) {}
-    Context(const std::string &path, const std::string &sup_path) : Context(path.c_str(), path, &sup_path) {}
-    Context(const std::string &path, std::error_code &error) noexcept { error = open_path(path, nullptr); }
-    Context(const std::string &path, const std::string &sup_path, std::error_code &error) noexcept
+    explicit Context(const std::string &path, Open how = Open::map) : Context(path.c_str(), path, nullptr, how) {}
+    Context(const std::string &path, const std::string &sup_path, Open how = Open::map)
+        : Context(path.c_str(), path, &sup_path, how)
     {
-        error = open_path(path, &sup_path);
+    }
+    Context(const std::string &path, std::error_code &error, Open how = Open::map) noexcept
+    {
+        error = open_path(path, nullptr, how);
+    }
+    Context(const std::string &path, const std::string &sup_path, std::error_code &error, Open how = Open::map) noexcept
+    {
+        error = open_path(path, &sup_path, how);
     }
 
     /*
      * The ELF file that bytes are. They, and those of the supplementary file, must stay where they are,
      * unchanged, as long as it is open. It opens no file: where a split file is needed first, frames are
-     * refused Status::waits.
+     * refused Status::waits. Open::map is refused Status::bad_flags.
      */
     static Context over(const void *bytes, std::size_t size, const void *sup, std::size_t sup_size,
-                        std::error_code &error) noexcept
+                        std::error_code &error, Open how = Open::plain) noexcept
     {
         Context made;
-        error = detail::error_of(addr2line_open(bytes, size, sup, sup_size, made.handle()));
+        error = detail::error_of(
+            addr2line_open_with(bytes, size, sup, sup_size, static_cast<std::uint32_t>(how), made.handle()));
         return made;
     }
-    static Context over(const void *bytes, std::size_t size, std::error_code &error) noexcept
+    static Context over(const void *bytes, std::size_t size, std::error_code &error, Open how = Open::plain) noexcept
     {
-        return over(bytes, size, nullptr, 0, error);
+        return over(bytes, size, nullptr, 0, error, how);
     }
-    static Context over(const void *bytes, std::size_t size, const void *sup = nullptr, std::size_t sup_size = 0)
+    static Context over(const void *bytes, std::size_t size, const void *sup = nullptr, std::size_t sup_size = 0,
+                        Open how = Open::plain)
     {
-        return detail::or_throw([&](std::error_code &error) { return over(bytes, size, sup, sup_size, error); });
+        return detail::or_throw([&](std::error_code &error) { return over(bytes, size, sup, sup_size, error, how); });
     }
 
     Context(Context &&other) noexcept
@@ -394,6 +415,9 @@ public:
         opens_files_ = false;
     }
     bool is_open() const noexcept { return file_.handle.at != nullptr; }
+
+    /* The errno behind Status::cannot_read: addr2line_file_errno. */
+    int os_error() const noexcept { return addr2line_file_errno(&file_); }
 
     /*
      * The frames at an address, none where nothing is known. A Context of a path answers the split files that
@@ -546,12 +570,12 @@ private:
     }
 
     /* The first argument tells it from the constructors that are called. */
-    Context(const char *what, const std::string &path, const std::string *sup_path)
+    Context(const char *what, const std::string &path, const std::string *sup_path, Open how)
     {
-        detail::throw_if(open_path(path, sup_path), what);
+        detail::throw_if(open_path(path, sup_path, how), what);
     }
 
-    std::error_code open_path(const std::string &path, const std::string *sup_path) noexcept
+    std::error_code open_path(const std::string &path, const std::string *sup_path, Open how) noexcept
     {
         /* C reads a path up to its first zero byte, which would be that of another file. */
         if (path.find('\0') != std::string::npos
@@ -559,8 +583,8 @@ private:
             return Status::cannot_read;
         }
         opens_files_ = true;
-        return detail::error_of(
-            addr2line_file_open(path.c_str(), sup_path == nullptr ? nullptr : sup_path->c_str(), &file_));
+        return detail::error_of(addr2line_file_open_with(path.c_str(), sup_path == nullptr ? nullptr : sup_path->c_str(),
+                                                         static_cast<std::uint32_t>(how), &file_));
     }
 
     /* One thing with its texts, by a call that is made again with more room where it asks for that. */

@@ -2,7 +2,7 @@
 import re
 
 # What rust/addr2line-proved-sys has for types of the headers.
-TYPES = {"void": "c_void", "char": "c_char", "size_t": "usize", "uint32_t": "u32", "uint64_t": "u64"}
+TYPES = {"void": "c_void", "char": "c_char", "size_t": "usize", "uint32_t": "u32", "uint64_t": "u64", "int": "i32"}
 
 
 def as_in_rust(declaration):

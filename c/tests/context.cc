@@ -6,6 +6,7 @@
 #include <addr2line.h>
 
 #include <algorithm>
+#include <cerrno>
 #include <cstdio>
 #include <cstdlib>
 #include <fstream>
@@ -228,6 +229,23 @@ void refusals(const std::string &path)
     CHECK(thrown_by([&] { closed.answer_loads(); }) == Status::closed);
 }
 
+// How a file is opened: each way gives the same frames, and errno is told.
+void ways(const std::string &path)
+{
+    using addr2line::Open;
+    for (const Open how : {Open::plain, Open::map, Open::decompress, Open::map | Open::decompress}) {
+        Context context(path, how);
+        CHECK(text_of(context.frames(inlined)) == four_frames && context.os_error() == 0);
+    }
+    const std::vector<char> held = bytes_of(path);
+    std::error_code error;
+    CHECK(text_of(Context::over(held.data(), held.size(), error, Open::decompress).frames(inlined)) == four_frames);
+    CHECK(!error);
+    CHECK(!Context::over(held.data(), held.size(), error, Open::map).is_open() && error == Status::bad_flags);
+    Context none("/nowhere", error, Open::plain);
+    CHECK(error == Status::cannot_read && none.os_error() == ENOENT);
+}
+
 void refused_memory(const std::string &path)
 {
     Context context(path);
@@ -335,6 +353,7 @@ int main(int argc, char **argv)
     texts_stay(path);
     moves(path);
     refusals(path);
+    ways(path);
     refused_memory(path);
     bytes(path);
     threads(path);

@@ -23,8 +23,9 @@ import warnings
 from types import TracebackType
 from typing import Any, Iterator, List, NamedTuple, Optional, Type, Union
 
-OK, TOO_SMALL, WAITS, NOTHING, CLOSED, OTHER_UNIT, OUT_OF_MEMORY = 0, 1, 2, 3, 4, 5, 16
-NOT_ELF = 18
+OK, TOO_SMALL, WAITS, NOTHING, CLOSED, OTHER_UNIT, BAD_FLAGS, OUT_OF_MEMORY = 0, 1, 2, 3, 4, 5, 6, 16
+NOT_ELF, COMPRESSED_SECTION = 18, 20
+DECOMPRESS = 1
 DEMANGLE, DEMANGLE_RUST = 1, 2
 # A path, as Python's own calls take it.
 _Path = Union[str, bytes, "os.PathLike[Any]"]
@@ -137,7 +138,7 @@ def _load_library() -> ctypes.CDLL:
     calls = {
         "version": [],
         "status_text": [ctypes.c_uint32] + out,
-        "open": [ctypes.c_void_p, size, ctypes.c_void_p, size, handle],
+        "open_with": [ctypes.c_void_p, size, ctypes.c_void_p, size, ctypes.c_uint32, handle],
         "find_location": [handle, address, ctypes.POINTER(_Location)] + out,
         "find_frames": [handle, address, ctypes.c_uint32, ctypes.POINTER(_Frame), size, ctypes.POINTER(size)] + out,
         "get_load": [handle, ctypes.POINTER(_Load)] + out,
@@ -199,7 +200,7 @@ class _Bytes:
 class File:
     """An open file."""
 
-    def __init__(self, path: _Path, sup: Optional[_Path] = None) -> None:
+    def __init__(self, path: _Path, sup: Optional[_Path] = None, decompress: bool = False) -> None:
         self._path = path
         self._thread = threading.get_ident()
         self._handle = _Handle(None)
@@ -214,8 +215,9 @@ class File:
         more = self._bytes[-1] if sup is not None else None
         self._text = ctypes.create_string_buffer(4096)
         self._frames = (_Frame * 32)()
-        status = _library.addr2line_open(
-            main.at, main.size, more.at if more else None, more.size if more else 0, ctypes.byref(self._handle)
+        flags = DECOMPRESS if decompress else 0
+        status = _library.addr2line_open_with(
+            main.at, main.size, more.at if more else None, more.size if more else 0, flags, ctypes.byref(self._handle)
         )
         if status != OK:
             self.close()
@@ -394,6 +396,9 @@ class File:
         return range(begin.value, end.value)
 
 
-def open_file(path: _Path, sup: Optional[_Path] = None) -> File:
-    """Opens the ELF file at a path, with its supplementary file if there is one."""
-    return File(path, sup)
+def open_file(path: _Path, sup: Optional[_Path] = None, decompress: bool = False) -> File:
+    """Opens the ELF file at a path, with its supplementary file if there is one.
+
+    With `decompress` sections that are compressed by zlib are read too, those of split files as well.
+    """
+    return File(path, sup, decompress)

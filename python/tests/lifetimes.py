@@ -1,6 +1,6 @@
-"""Tests how long files, answers and walks of the module addr2line live: lifetimes.py AREA
+"""Tests how long files, answers and walks of the module addr2line live: lifetimes.py AREA COMPRESSED
 
-AREA is crates/addr2line_bin/data/area.elf. Ends with an AssertionError where something doesn't hold.
+AREA is crates/addr2line_bin/data/area.elf, COMPRESSED the same with its debug sections compressed. Ends with an AssertionError where something doesn't hold.
 """
 import gc
 import sys
@@ -97,8 +97,15 @@ def a_walk_holds_its_file(path):
     assert list(walk) == []
 
 
+def compressed_sections_are_read(path):
+    assert refusal_of(lambda: addr2line.open_file(path)) == addr2line.COMPRESSED_SECTION
+    with addr2line.open_file(path, decompress=True) as file:
+        assert named(file.frames(ADDRESS)) == FOUR
+
+
 def main():
     path = sys.argv[1]
+    compressed_sections_are_read(sys.argv[2])
     answers_stay(path)
     what_nothing_holds_is_closed(path)
     a_closed_file_is_not_told(path)

@@ -30,12 +30,12 @@ pub use crate::files::{FileSource, FileStamp, FileTime, HostFiles, MemoryFiles};
 pub use crate::frames::FramesLookup;
 pub use crate::loader::{Loader, LoaderOver};
 pub use crate::names::{Style, demangle_auto_with, demangle_v0};
-pub use crate::opened::open_bytes;
+pub use crate::opened::{open_bytes, open_bytes_with};
 pub use crate::reply::{
     FoundUnit, OwnedFrame, OwnedLoad, OwnedLocation, OwnedName, OwnedSpan, Reply,
 };
 pub use crate::session::{Answer, Call, replay};
-pub use crate::split_files::read_split_sections;
+pub use crate::split_files::{read_split_sections, read_split_sections_with};
 pub use crate::units::UnitLookup;
 pub use addr2line_lines::Location;
 pub use addr2line_units::continuation::{LookupContinuation, LookupResult};

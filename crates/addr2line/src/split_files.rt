@@ -187,7 +187,6 @@ fn read_split_file(
 /// The bytes are shared, and none is copied. Refused as `ElfFile::parse` is, then as a section by
 /// name is, then `Dwarf` for the first unit and for what it needs of the sections that have the
 /// load's unit. May fail with `OutOfMemory` instead. Source: DWARF 5, sections 3.1.2 and 7.3.2.
-#[tactic(auto, unfolding(crate::specs::SplitFiles::split_of))]
 pub fn read_split_sections(
     alloc: Global,
     load: &SplitDwarfLoad<EndianBytes>,
@@ -196,8 +195,23 @@ pub fn read_split_sections(
     ensures gives { LoadsUnlessOom (option_map (λ d. d.value)) result
         (split_of Refused load.now bytes) }
 {
+    read_split_sections_with(alloc, CompressedSections::Refused, load, bytes)
+}
+
+/// The same, by what becomes of sections that are compressed. One that is decompressed takes as
+/// much memory as its bytes, and is refused as `ElfFile::decompressed_section` is.
+#[tactic(auto, unfolding(crate::specs::SplitFiles::split_of))]
+pub fn read_split_sections_with(
+    alloc: Global,
+    compressed: CompressedSections,
+    load: &SplitDwarfLoad<EndianBytes>,
+    bytes: Bytes,
+) -> Result<Option<Rc<Dwarf<EndianBytes>>>, LoaderError>
+    ensures gives { LoadsUnlessOom (option_map (λ d. d.value)) result
+        (split_of compressed load.now bytes) }
+{
     let object = parse_bytes(alloc, bytes)?;
-    read_split_object(alloc, CompressedSections::Refused, load, &object)
+    read_split_object(alloc, compressed, load, &object)
 }
 
 // What was read, or none in place of a fault.

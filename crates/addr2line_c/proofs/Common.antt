@@ -28,7 +28,7 @@ pub use Rattle.addr2line_units.specs.FramesLeft.{frames_left}
 pub use Rattle.addr2line_units.specs.LocationsLeft.{locations_left}
 pub use Rattle.addr2line_units.specs.UnitView.{SplitLoad}
 pub use Rattle.addr2line.specs.SplitFiles.{of_file, or_none}
-pub use Rattle.addr2line_c.specs.Calls.{AnswersToken, CallsFile, ForgetsAnswer, FramesAt, IsOpened, LocatesAt, OpensFile, ParsesAll, PreloadsAt, SectionNamed, SpansFrom, SymbolAt, TellsLoad, given_sup}
+pub use Rattle.addr2line_c.specs.Calls.{AnswersToken, CallsFile, ForgetsAnswer, FramesAt, FramesBy, IsOpened, LocatesAt, OpensFile, ParsesAll, PreloadsAt, SectionNamed, SpansFrom, SymbolAt, TellsLoad, given_sup}
 pub use Rattle.addr2line_c.specs.Filled.{IsFilled, saturated}
 pub use Rattle.addr2line_c.specs.Sequence.{EachNames, texts_of_items, written_items}
 pub use Rattle.addr2line_c.specs.Status.{after_reply, status_number, status_of_error, status_text}

@@ -4,7 +4,7 @@
 use Rattle.std.specs.Prelude.{◌≡◌, ◌≢◌, Bool, true, false, Option, Some, None, Ok, Err, if◌then◌else◌}
 use Rattle.addr2line_c.specs.Common.{OutOfMemory, Loading}
 use Rattle.addr2line_c.specs.declared.status.Status.{Status}
-use Rattle.addr2line_c.specs.declared.status.Status.TheVariants.{Done, TooSmall, Waits, Nothing, Closed, OtherUnit, Refused}
+use Rattle.addr2line_c.specs.declared.status.Status.TheVariants.{Done, TooSmall, Waits, Nothing, Closed, OtherUnit, BadFlags, Refused}
 
 -- something is there, and it is written
 abbrev pub IsThere : {A : Type 0} → Loading (Option A) → (A → Type 0) → Type 0
@@ -21,6 +21,7 @@ SaysWhatIsThere given written fits (Refused e) = e ≢ OutOfMemory → given ≡
 SaysWhatIsThere given written fits Waits = ⊥
 SaysWhatIsThere given written fits Closed = ⊥
 SaysWhatIsThere given written fits OtherUnit = ⊥
+SaysWhatIsThere given written fits BadFlags = ⊥
 
 -- the same of a lookup that waits where nothing is there yet
 abbrev pub SaysOrWaits : {A : Type 0} → Loading (Option A) → (A → Type 0) → Bool → Status → Type 0
@@ -31,6 +32,7 @@ SaysOrWaits given written fits (Refused e) = e ≢ OutOfMemory → given ≡ Err
 SaysOrWaits given written fits Nothing = ⊥
 SaysOrWaits given written fits Closed = ⊥
 SaysOrWaits given written fits OtherUnit = ⊥
+SaysOrWaits given written fits BadFlags = ⊥
 
 -- memory wasn't refused
 abbrev pub HasMemory : Status → Type 0

@@ -7,7 +7,7 @@ use Rattle.addr2line_c.specs.Common.{OutOfMemory, location_of, IsReady, IsReadyF
 use Rattle.elf.specs.Sections.{section_range_at}
 use Rattle.elf.specs.Symbols.{symbol_at}
 use Rattle.addr2line_units.specs.declared.frames.OnFault.TheVariants.{Stop}
-use Rattle.addr2line.specs.declared.compressed.CompressedSections.TheVariants as compressed
+use Rattle.addr2line.specs.declared.compressed.CompressedSections.{CompressedSections}
 use Rattle.addr2line.specs.AfterLookups.{IsKnownFew}
 use Rattle.addr2line.specs.Loaded.{loaded_bytes}
 use Rattle.addr2line.specs.Loads.{AfterPreload}
@@ -20,7 +20,7 @@ use Rattle.addr2line_c.specs.declared.loads.WrittenLoad.{WrittenLoad}
 use Rattle.addr2line_c.specs.declared.location.WrittenLocation.{WrittenLocation}
 use Rattle.addr2line_c.specs.declared.spans.WrittenSpan.{WrittenSpan}
 use Rattle.addr2line_c.specs.declared.status.Status.{Status}
-use Rattle.addr2line_c.specs.declared.status.Status.TheVariants.{Done, Closed, Nothing, Refused}
+use Rattle.addr2line_c.specs.declared.status.Status.TheVariants.{Done, Closed, Nothing, BadFlags, Refused}
 use Rattle.addr2line_c.specs.declared.symbols.WrittenSymbol.{WrittenSymbol}
 use Rattle.addr2line_c.specs.Answered.{HasMemory, IfNothing, SaysWhatIsThere, done_if}
 use Rattle.addr2line_c.specs.AskedLoads.{waiting_load}
@@ -70,6 +70,14 @@ pub record FramesAt (probe : ℕ) (names : Option Style) (out : List WrittenFram
       → IsKnownFew Stop old.context probe → s ≢ Refused OutOfMemory
   pub others : ChangesLoads old new
 
+-- the same by flags: where one isn't known nothing is there, and nothing is done
+abbrev pub FramesBy : ℕ → Option (Option Style) → List WrittenFrame → ℕ → List ℕ → ℕ
+    → OpenFile → OpenFile → Status → Type 0
+FramesBy probe (Some names) out count buffer needed old new s =
+    FramesAt probe names out count buffer needed old new s
+FramesBy probe None out count buffer needed old new s =
+    (s ≡ BadFlags) × (count ≡ 0) × (needed ≡ 0) × (new ≡ old)
+
 -- the rows that a range of addresses meets were looked up, from a place on, so many at most
 pub record SpansFrom (low high first most : ℕ) (out : List WrittenSpan) (count : ℕ)
     (buffer : List ℕ) (needed : ℕ) (old new : OpenFile) (s : Status) : Type 0 where
@@ -92,8 +100,8 @@ pub record TellsLoad (out : WrittenLoad) (buffer : List ℕ) (needed : ℕ) (old
 -- the load of a token was answered by the file that bytes are
 pub record AnswersToken (token : ℕ) (bytes : List ℕ) (old new : OpenFile) (s : Status)
     : Type 0 where
-  pub gives : AnswersTokenAs token bytes s old.context new.context old.loads.loads.items
-      new.loads.loads.items
+  pub gives : AnswersTokenAs old.compressed token bytes s old.context new.context
+      old.loads.loads.items new.loads.loads.items
   pub others : ChangesLoads old new
 
 -- the answer to the load of a token was taken back
@@ -135,17 +143,26 @@ pub record SectionNamed (name : List ℕ) (begin end : ℕ) (old new : OpenFile)
 abbrev pub given_sup : List ℕ → Option (List ℕ)
 given_sup sup = if length sup == 0 then None else Some sup
 
--- a new file of these bytes: its sections are read, and nothing was asked for
-pub record IsOpened (bytes sup : List ℕ) (file : OpenFile) : Type 0 where
-  pub loaded : loaded_bytes compressed.Refused bytes (given_sup sup)
-      ≡ Ok (file.object, file.context)
+-- a new file of these bytes: its sections are read, by what becomes of compressed ones, and nothing
+-- was asked for
+pub record IsOpened (compressed : CompressedSections) (bytes sup : List ℕ) (file : OpenFile)
+    : Type 0 where
+  pub loaded : loaded_bytes compressed bytes (given_sup sup) ≡ Ok (file.object, file.context)
+  pub by : file.compressed ≡ compressed
   pub loads : file.loads.loads.items ≡ []
 
 -- a handle has the file of these bytes, or nothing, and the number says why
-abbrev pub OpensFile : List ℕ → List ℕ → Option OpenFile → ℕ → Type 0
-OpensFile bytes sup (Some file) number = (number ≡ status_number Done) × IsOpened bytes sup file
-OpensFile bytes sup None number = (e : LoaderError) × (number ≡ status_number (Refused e))
-    × (e ≢ OutOfMemory → loaded_bytes compressed.Refused bytes (given_sup sup) ≡ Err e)
+abbrev pub OpensFile : CompressedSections → List ℕ → List ℕ → Option OpenFile → ℕ → Type 0
+OpensFile compressed bytes sup (Some file) number =
+    (number ≡ status_number Done) × IsOpened compressed bytes sup file
+OpensFile compressed bytes sup None number = (e : LoaderError)
+    × (number ≡ status_number (Refused e))
+    × (e ≢ OutOfMemory → loaded_bytes compressed bytes (given_sup sup) ≡ Err e)
+
+-- the same by flags: where one isn't known it has nothing
+abbrev pub OpensFileBy : Option CompressedSections → List ℕ → List ℕ → Option OpenFile → ℕ → Type 0
+OpensFileBy (Some compressed) bytes sup value number = OpensFile compressed bytes sup value number
+OpensFileBy None bytes sup value number = (value ≡ None) × (number ≡ status_number BadFlags)
 
 -- the text of a status of this number was written, and the answer says whether it had room
 pub record TellsStatus (number : ℕ) (buffer : List ℕ) (needed answer : ℕ) : Type 0 where

@@ -6,7 +6,7 @@ use Rattle.std.specs.Prelude.{◌≡◌, ◌≢◌, ◌==◌, ◌++◌, ℕ, Boo
 use Rattle.addr2line_c.specs.Common.{Error, UnknownToken, IsUnlessOom, WasNotRefused, Sections, Loading, SplitLoad, ContextState, IsReadyForAll, ParsesToFault, Stays, lines_of_all, or_none, split_of}
 use Rattle.elf.specs.declared.error.LoaderError.TheVariants as loading
 use Rattle.addr2line_units.specs.declared.parses.ReadingDepth.TheVariants.{Details}
-use Rattle.addr2line.specs.declared.compressed.CompressedSections.TheVariants as compressed
+use Rattle.addr2line.specs.declared.compressed.CompressedSections.{CompressedSections}
 use Rattle.addr2line.specs.Loads.{AfterForgetting, AfterLoading, AfterParse, forget_reply, load_reply, parse_reply}
 use Rattle.addr2line.specs.Lookups.{loads_at}
 use Rattle.addr2line_c.specs.declared.loads.AskedLoad.{AskedLoad}
@@ -16,10 +16,10 @@ use Rattle.addr2line_c.specs.AskedLoads.{load_of_token, with_loads, with_waits}
 use Rattle.addr2line_c.specs.Status.{after_reply, status_of_error}
 
 -- what the file that bytes are has for a load, nothing where there are no bytes
-abbrev pub answer_of_bytes : SplitLoad → List ℕ → Loading (Option Sections)
-answer_of_bytes load bytes = if length bytes == 0
+abbrev pub answer_of_bytes : CompressedSections → SplitLoad → List ℕ → Loading (Option Sections)
+answer_of_bytes compressed load bytes = if length bytes == 0
     then Ok None
-    else split_of compressed.Refused load bytes
+    else split_of compressed load bytes
 
 -- what a status says of the file that was to answer: that it was taken, or that there was none,
 -- that it is another unit's, or its refusal
@@ -55,12 +55,12 @@ module _ {R : Type 0} where
       if is_out_of_memory s then asked else with_waits false asked token
 
   -- the load of a token was answered by the file that bytes are, or there is no such load
-  abbrev pub AnswersTokenAs : ℕ → List ℕ → Status → ContextState → ContextState
-      → List (AskedLoad R) → List (AskedLoad R) → Type 0
-  AnswersTokenAs token bytes s old new asked left = elim (load_of_token asked token) [
+  abbrev pub AnswersTokenAs : CompressedSections → ℕ → List ℕ → Status → ContextState
+      → ContextState → List (AskedLoad R) → List (AskedLoad R) → Type 0
+  AnswersTokenAs compressed token bytes s old new asked left = elim (load_of_token asked token) [
     | None ↦ RefusesToken s old new asked left
-    | Some load ↦ AnswersLoadAs (not (length bytes == 0)) (answer_of_bytes load bytes) load.unit s
-        old new × (left ≡ loads_answered s asked token)
+    | Some load ↦ AnswersLoadAs (not (length bytes == 0)) (answer_of_bytes compressed load bytes)
+        load.unit s old new × (left ≡ loads_answered s asked token)
   ]
 
   -- the answer to the load of a token was taken back, or there is no such load

@@ -8,7 +8,7 @@ use Rattle.elf.specs.declared.error.LoaderError.{LoaderError}
 use Rattle.elf.specs.declared.error.LoaderError.TheVariants as loading
 use Rattle.elf.specs.Text.{loader_error_of, loader_text_of}
 use Rattle.addr2line_c.specs.declared.status.Status.{Status}
-use Rattle.addr2line_c.specs.declared.status.Status.TheVariants.{Done, TooSmall, Waits, Nothing, Closed, OtherUnit, Refused}
+use Rattle.addr2line_c.specs.declared.status.Status.TheVariants.{Done, TooSmall, Waits, Nothing, Closed, OtherUnit, BadFlags, Refused}
 
 -- the number of a refused reading of DWARF bytes
 abbrev pub dwarf_number : Error → ℕ
@@ -52,6 +52,7 @@ status_number Waits = 2
 status_number Nothing = 3
 status_number Closed = 4
 status_number OtherUnit = 5
+status_number BadFlags = 6
 status_number (Refused e) = loader_number e
 
 -- what a status says
@@ -62,6 +63,7 @@ status_text Waits = codes "a split file is waited for"
 status_text Nothing = codes "nothing there"
 status_text Closed = codes "the handle is not open"
 status_text OtherUnit = codes "the split file of another unit"
+status_text BadFlags = codes "unknown flags"
 status_text (Refused e) = loader_text_of e
 
 -- the status of a refused reading of DWARF bytes

@@ -16,7 +16,9 @@ use crate::loads::AskedLoads;
 use crate::status::{Status, status_of_error};
 use addr2line::gimli::Dwarf;
 use addr2line::gimli::read::{EndianBytes, Error, Reader};
-use addr2line::{Context, LoaderError, SplitDwarfLoad, UnitToken, read_split_sections};
+use addr2line::{
+    CompressedSections, Context, LoaderError, SplitDwarfLoad, UnitToken, read_split_sections_with,
+};
 use bytes::Bytes;
 use std::alloc::Global;
 use std::rc::Rc;
@@ -24,16 +26,17 @@ use std::rc::Rc;
 // What the file that bytes are has for a load, nothing where there are no bytes.
 fn read_answer(
     alloc: Global,
+    compressed: CompressedSections,
     load: &SplitDwarfLoad<EndianBytes>,
     bytes: &'static [u8],
 ) -> Result<Option<Rc<Dwarf<EndianBytes>>>, LoaderError>
     ensures gives { LoadsUnlessOom (option_map (λ d. d.value)) result
-        (answer_of_bytes load.now bytes.now) }
+        (answer_of_bytes compressed load.now bytes.now) }
 {
     if bytes.is_empty() {
         return Ok(None);
     }
-    read_split_sections(alloc, load, Bytes::from_static(bytes))
+    read_split_sections_with(alloc, compressed, load, Bytes::from_static(bytes))
 }
 
 // What is said of an answer whose file could be read.
@@ -108,17 +111,18 @@ fn answer_by<R: Reader>(
 /// A load that is answered waits no more. Refused memory leaves it waiting.
 pub(crate) fn answer(
     alloc: Global,
+    compressed: CompressedSections,
     context: &mut Context<EndianBytes>,
     loads: &mut AskedLoads<EndianBytes>,
     token: u64,
     bytes: &'static [u8],
 ) -> Status
-    ensures gives { AnswersTokenAs token bytes.now result context.old context.new
+    ensures gives { AnswersTokenAs compressed token bytes.now result context.old context.new
         loads.old.loads.items loads.new.loads.items }
 {
     let status = match loads.get(token) {
         Some(load) => {
-            let read = read_answer(alloc, load, bytes);
+            let read = read_answer(alloc, compressed, load, bytes);
             answer_by(context, load.unit, !bytes.is_empty(), read)
         }
         None => return status_of_error(Error::UnknownToken),

@@ -2,10 +2,11 @@
 
 ghost use Rattle.std.specs.Prelude.{◌≡◌, [], IfOk, length, option_map};
 ghost use Rattle.addr2line_c.specs.Common.{LoadsUnlessOom};
-ghost use Rattle.addr2line.specs.declared.compressed.CompressedSections.TheVariants as compressed;
 ghost use Rattle.addr2line.specs.Loaded.{loaded_bytes};
 ghost use Rattle.addr2line_c.specs.Calls.{given_sup};
+ghost use Rattle.addr2line_c.specs.Flags.{names_by};
 
+use crate::flags::names_by;
 use crate::frames::WrittenFrame;
 use crate::loads::{AskedLoads, WrittenLoad};
 use crate::location::WrittenLocation;
@@ -14,7 +15,7 @@ use crate::status::Status;
 use crate::symbols::{self, WrittenSymbol};
 use crate::{answers, lookups};
 use addr2line::gimli::read::EndianBytes;
-use addr2line::{Context, ElfFile, LoaderError, Style, open_bytes};
+use addr2line::{CompressedSections, Context, ElfFile, LoaderError, open_bytes_with};
 use bytes::Bytes;
 use std::alloc::Global;
 
@@ -22,6 +23,7 @@ use std::alloc::Global;
 #[derive(Drop)]
 pub(crate) struct OpenFile {
     pub(crate) alloc: Global,
+    pub(crate) compressed: CompressedSections,
     pub(crate) object: ElfFile,
     pub(crate) context: Context<EndianBytes>,
     pub(crate) loads: AskedLoads<EndianBytes>,
@@ -38,21 +40,25 @@ fn bytes_if(bytes: &'static [u8]) -> Option<Bytes>
 }
 
 /// The file that bytes are, with a supplementary file where there are bytes of one. No byte is
-/// copied.
+/// copied, but of sections that are decompressed.
 pub(crate) fn open(
     alloc: Global,
+    compressed: CompressedSections,
     bytes: &'static [u8],
     sup: &'static [u8],
 ) -> Result<Box<OpenFile>, LoaderError>
     ensures gives { LoadsUnlessOom (λ b. (b.value.object, b.value.context)) result
-        (loaded_bytes compressed.Refused bytes.now (given_sup sup.now)) }
+        (loaded_bytes compressed bytes.now (given_sup sup.now)) }
+    ensures by { IfOk result (λ b. b.value.compressed ≡ compressed) }
     ensures empty { IfOk result (λ b. b.value.loads.loads.items ≡ []) }
 {
-    let (object, context) = open_bytes(alloc, Bytes::from_static(bytes), bytes_if(sup))?;
+    let main = Bytes::from_static(bytes);
+    let (object, context) = open_bytes_with(alloc, compressed, main, bytes_if(sup))?;
     let file = Box::new(
         alloc,
         OpenFile {
             alloc,
+            compressed,
             object,
             context,
             loads: AskedLoads::new(alloc),
@@ -62,7 +68,7 @@ pub(crate) fn open(
 }
 
 impl OpenFile {
-    ghost use Rattle.addr2line_c.specs.Calls.{AnswersToken, ForgetsAnswer, FramesAt, LocatesAt, ParsesAll, PreloadsAt, SectionNamed, SpansFrom, SymbolAt, TellsLoad};
+    ghost use Rattle.addr2line_c.specs.Calls.{AnswersToken, ForgetsAnswer, FramesBy, LocatesAt, ParsesAll, PreloadsAt, SectionNamed, SpansFrom, SymbolAt, TellsLoad};
 
     /// The location of an address.
     pub(crate) fn find_location(
@@ -81,15 +87,20 @@ impl OpenFile {
     pub(crate) fn find_frames(
         &mut self,
         probe: u64,
-        names: Option<Style>,
+        flags: u32,
         out: &mut [WrittenFrame],
         count: &mut usize,
         buffer: &mut [u8],
         needed: &mut usize,
     ) -> Status
-        ensures gives { FramesAt probe names out.new count.new buffer.new needed.new
+        ensures gives { FramesBy probe (names_by flags) out.new count.new buffer.new needed.new
             self.old self.new result }
     {
+        let Some(names) = names_by(flags) else {
+            *count = 0;
+            *needed = 0;
+            return Status::BadFlags;
+        };
         lookups::find_frames(
             self.alloc,
             &mut self.context,
@@ -119,7 +130,14 @@ impl OpenFile {
     pub(crate) fn answer_load(&mut self, token: u64, bytes: &'static [u8]) -> Status
         ensures gives { AnswersToken token bytes.now self.old self.new result }
     {
-        answers::answer(self.alloc, &mut self.context, &mut self.loads, token, bytes)
+        answers::answer(
+            self.alloc,
+            self.compressed,
+            &mut self.context,
+            &mut self.loads,
+            token,
+            bytes,
+        )
     }
 
     /// Takes the answer to the load of a token back.

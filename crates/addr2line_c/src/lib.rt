@@ -2,8 +2,9 @@
 #![tactic(auto)]
 
 ghost use Rattle.std.specs.Prelude.{◌≡◌, None, length};
-ghost use Rattle.addr2line_c.specs.Flags.{names_by};
-ghost use Rattle.addr2line_c.specs.Calls.{AnswersToken, CallsFile, ForgetsAnswer, FramesAt, LocatesAt, OpensFile, ParsesAll, PreloadsAt, SectionNamed, SpansFrom, SymbolAt, TellsLoad, TellsStatusIfAny};
+ghost use Rattle.addr2line.specs.declared.compressed.CompressedSections.TheVariants as compressed;
+ghost use Rattle.addr2line_c.specs.Flags.{compressed_by, names_by};
+ghost use Rattle.addr2line_c.specs.Calls.{AnswersToken, CallsFile, ForgetsAnswer, FramesBy, LocatesAt, OpensFile, OpensFileBy, ParsesAll, PreloadsAt, SectionNamed, SpansFrom, SymbolAt, TellsLoad, TellsStatusIfAny};
 
 mod answers;
 mod file;
@@ -22,7 +23,7 @@ mod status;
 mod symbols;
 
 use crate::fill::fill;
-use crate::flags::names_by;
+use crate::flags::compressed_by;
 use crate::frames::WrittenFrame;
 use crate::handle::Handle;
 use crate::loads::WrittenLoad;
@@ -30,14 +31,15 @@ use crate::location::WrittenLocation;
 use crate::spans::WrittenSpan;
 use crate::status::{Status, done_if};
 use crate::symbols::WrittenSymbol;
+use addr2line::CompressedSections;
 use std::alloc::Global;
 
 /// The number of what a C program may call: it grows with each change.
 #[unsafe(no_mangle)]
 pub extern "C" fn addr2line_version() -> u32
-    ensures gives { result ≡ 2 }
+    ensures gives { result ≡ 3 }
 {
-    2
+    3
 }
 
 /// What a status says, with a zero after it; nothing of a number that is no status.
@@ -63,10 +65,44 @@ pub extern "C" fn addr2line_open(
     sup: &'static [u8],
     handle: &mut Handle,
 ) -> u32
-    ensures gives { OpensFile bytes.now sup.now handle.new.value result }
+    ensures gives { OpensFile compressed.Refused bytes.now sup.now handle.new.value result }
+{
+    open(alloc, CompressedSections::Refused, bytes, sup, handle)
+}
+
+/// The same by flags. Where one isn't known the handle is closed.
+#[unsafe(no_mangle)]
+pub extern "C" fn addr2line_open_with(
+    alloc: Global,
+    bytes: &'static [u8],
+    sup: &'static [u8],
+    flags: u32,
+    handle: &mut Handle,
+) -> u32
+    ensures gives { OpensFileBy (compressed_by flags) bytes.now sup.now handle.new.value result }
+{
+    match compressed_by(flags) {
+        Some(compressed) => open(alloc, compressed, bytes, sup, handle),
+        None => {
+            handle.close(alloc);
+            Status::BadFlags.number()
+        }
+    }
+}
+
+// Opens the file that bytes are, by what becomes of compressed sections. What the handle held is
+// closed first.
+fn open(
+    alloc: Global,
+    compressed: CompressedSections,
+    bytes: &'static [u8],
+    sup: &'static [u8],
+    handle: &mut Handle,
+) -> u32
+    ensures gives { OpensFile compressed bytes.now sup.now handle.new.value result }
 {
     handle.close(alloc);
-    match file::open(alloc, bytes, sup) {
+    match file::open(alloc, compressed, bytes, sup) {
         Ok(file) => {
             handle.put(file);
             Status::Done.number()
@@ -117,12 +153,12 @@ pub extern "C" fn addr2line_find_frames(
     needed: &mut usize,
 ) -> u32
     ensures gives { CallsFile handle.old.value handle.new.value result
-        (FramesAt address (names_by flags) frames.new count.new text.new needed.new) }
+        (FramesBy address (names_by flags) frames.new count.new text.new needed.new) }
 {
     let Some(mut file) = handle.take(alloc) else {
         return Status::Closed.number();
     };
-    let status = file.find_frames(address, names_by(flags), frames, count, text, needed);
+    let status = file.find_frames(address, flags, frames, count, text, needed);
     handle.put(file);
     status.number()
 }

@@ -26,6 +26,8 @@ pub(crate) enum Status {
     Closed,
     /// The split file that was given has the entries of another unit.
     OtherUnit,
+    /// A flag isn't known.
+    BadFlags,
     /// A refusal.
     Refused(LoaderError),
 }
@@ -133,6 +135,7 @@ impl Status {
             Status::Nothing => 3,
             Status::Closed => 4,
             Status::OtherUnit => 5,
+            Status::BadFlags => 6,
             Status::Refused(error) => loader_number(error),
         }
     }
@@ -149,6 +152,7 @@ impl Status {
             3 => Some(Status::Nothing),
             4 => Some(Status::Closed),
             5 => Some(Status::OtherUnit),
+            6 => Some(Status::BadFlags),
             _ => Some(Status::Refused(loader_of_number(number)?)),
         }
     }
@@ -164,6 +168,7 @@ impl Status {
             Status::Nothing => "nothing there",
             Status::Closed => "the handle is not open",
             Status::OtherUnit => "the split file of another unit",
+            Status::BadFlags => "unknown flags",
             Status::Refused(error) => error.text(),
         }
     }

@@ -9,7 +9,7 @@ use std::marker::{PhantomData, PhantomPinned};
 use std::ptr::null_mut;
 
 /// What `addr2line_version` gives for these declarations.
-pub const ADDR2LINE_VERSION: u32 = 2;
+pub const ADDR2LINE_VERSION: u32 = 3;
 
 /// What a call comes to.
 pub type addr2line_status = u32;
@@ -26,6 +26,8 @@ pub const ADDR2LINE_NOTHING: addr2line_status = 3;
 pub const ADDR2LINE_CLOSED: addr2line_status = 4;
 /// The split file that was given is that of another unit.
 pub const ADDR2LINE_OTHER_UNIT: addr2line_status = 5;
+/// A bit of the flags is none of the call's flags; nothing was done.
+pub const ADDR2LINE_BAD_FLAGS: addr2line_status = 6;
 /// Memory was refused.
 pub const ADDR2LINE_OUT_OF_MEMORY: addr2line_status = 16;
 /// The file can't be read; of `addr2line_file.h` alone.
@@ -78,6 +80,11 @@ pub const ADDR2LINE_BAD_LINE_HEADER: addr2line_status = 48;
 pub const ADDR2LINE_ADDRESS_OVERFLOW: addr2line_status = 49;
 /// Unknown unit token.
 pub const ADDR2LINE_UNKNOWN_TOKEN: addr2line_status = 50;
+
+/// Sections that are compressed by zlib are decompressed.
+pub const ADDR2LINE_DECOMPRESS: u32 = 1;
+/// Files are mapped and not read; of `addr2line_file.h` alone.
+pub const ADDR2LINE_FILE_MAP: u32 = 256;
 
 /// Names as they stand in the source, for Rust before its version 0 of mangling.
 pub const ADDR2LINE_DEMANGLE: u32 = 1;
@@ -192,7 +199,7 @@ pub struct addr2line_load {
     pub path: addr2line_text,
 }
 
-/// A file that is mapped, of those of an open file.
+/// The bytes of a file, of those of an open file.
 #[repr(C)]
 #[derive(Debug)]
 pub struct addr2line_mapped {
@@ -200,18 +207,23 @@ pub struct addr2line_mapped {
     is_foreign: PhantomData<(*mut u8, PhantomPinned)>,
 }
 
-/// An open file, with what is mapped for it.
+/// An open file, with all bytes that it needs.
 #[repr(C)]
 #[derive(Debug)]
 pub struct addr2line_file {
     /// For the calls of `addr2line.h`.
     pub handle: addr2line_handle,
-    /// Null where nothing is mapped.
+    /// Null where there are none.
     pub mapped: *mut addr2line_mapped,
+    /// Those that it was opened by.
+    pub flags: u32,
+    /// What `addr2line_file_errno` gives.
+    pub error: i32,
 }
 
 /// What a file must be before its first use.
-pub const ADDR2LINE_FILE_INIT: addr2line_file = addr2line_file { handle: ADDR2LINE_INIT, mapped: null_mut() };
+pub const ADDR2LINE_FILE_INIT: addr2line_file =
+    addr2line_file { handle: ADDR2LINE_INIT, mapped: null_mut(), flags: 0, error: 0 };
 
 // missing_docs isn't asked of them: the headers say what each needs and gives.
 #[allow(missing_docs)]
@@ -228,6 +240,14 @@ extern "C" {
         size: usize,
         sup: *const c_void,
         sup_size: usize,
+        handle: *mut addr2line_handle,
+    ) -> addr2line_status;
+    pub fn addr2line_open_with(
+        bytes: *const c_void,
+        size: usize,
+        sup: *const c_void,
+        sup_size: usize,
+        flags: u32,
         handle: *mut addr2line_handle,
     ) -> addr2line_status;
     pub fn addr2line_close(handle: *mut addr2line_handle);
@@ -293,11 +313,18 @@ extern "C" {
         begin: *mut u64,
         end: *mut u64,
     ) -> addr2line_status;
+    pub fn addr2line_file_open_with(
+        path: *const c_char,
+        sup_path: *const c_char,
+        flags: u32,
+        file: *mut addr2line_file,
+    ) -> addr2line_status;
     pub fn addr2line_file_open(
         path: *const c_char,
         sup_path: *const c_char,
         file: *mut addr2line_file,
     ) -> addr2line_status;
+    pub fn addr2line_file_errno(file: *const addr2line_file) -> i32;
     pub fn addr2line_file_close(file: *mut addr2line_file);
     pub fn addr2line_file_find_frames(
         file: *mut addr2line_file,

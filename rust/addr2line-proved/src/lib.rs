@@ -66,22 +66,25 @@ impl Context<'static> {
     ///
     /// Refused `ADDR2LINE_CANNOT_READ` where it can't be mapped.
     pub fn open(path: impl AsRef<Path>) -> Result<Self, Error> {
-        Self::open_with(path.as_ref(), None)
+        Self::open_by(path.as_ref(), None, sys::ADDR2LINE_FILE_MAP)
     }
 
     /// The same with its supplementary file (what `dwz -m` wrote).
     pub fn open_with_sup(path: impl AsRef<Path>, sup: impl AsRef<Path>) -> Result<Self, Error> {
-        Self::open_with(path.as_ref(), Some(sup.as_ref()))
+        Self::open_by(path.as_ref(), Some(sup.as_ref()), sys::ADDR2LINE_FILE_MAP)
     }
 
-    fn open_with(path: &Path, sup: Option<&Path>) -> Result<Self, Error> {
+    /// The same by flags: `sys::ADDR2LINE_DECOMPRESS`, `sys::ADDR2LINE_FILE_MAP`, both or 0. A file that isn't mapped is read.
+    ///
+    /// Refused `ADDR2LINE_BAD_FLAGS` where there is another one.
+    pub fn open_by(path: &Path, sup: Option<&Path>, flags: u32) -> Result<Self, Error> {
         let path = path_of(path)?;
         let sup = sup.map(path_of).transpose()?;
         let mut context = Context::closed(true);
         let sup_path = sup.as_ref().map_or(ptr::null(), |sup| sup.as_ptr());
         // SAFETY: both paths end in a zero byte and live until the call is over; a null pointer stands for no second one.
         // That nothing writes to a mapped file is asked of the caller, in words, since nothing here can check it.
-        let status = unsafe { sys::addr2line_file_open(path.as_ptr(), sup_path, &mut context.file) };
+        let status = unsafe { sys::addr2line_file_open_with(path.as_ptr(), sup_path, flags, &mut context.file) };
         error::found(status).map(|_| context)
     }
 }
@@ -185,7 +188,8 @@ impl<'a> Context<'a> {
         error::found(unsafe { sys::addr2line_parse_all(&mut self.file.handle) }).map(|_| ())
     }
 
-    /// Answers each split file that is waited for by the file at its path, which is mapped as that of [`open`](Self::open).
+    /// Answers each split file that is waited for by the file at its path. That is mapped where the file itself is, and else
+    /// read.
     pub fn answer_loads(&mut self) -> Result<(), Error> {
         // SAFETY: the file is one that was opened.
         error::found(unsafe { sys::addr2line_file_answer_loads(&mut self.file) }).map(|_| ())

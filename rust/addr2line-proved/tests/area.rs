@@ -50,6 +50,16 @@ fn a_location_a_symbol_and_a_section_are_found_or_not() {
 }
 
 #[test]
+fn each_way_of_opening_gives_the_same_frames() {
+    let area = std::path::Path::new(AREA);
+    for flags in [0, sys::ADDR2LINE_FILE_MAP, sys::ADDR2LINE_DECOMPRESS, sys::ADDR2LINE_FILE_MAP | sys::ADDR2LINE_DECOMPRESS] {
+        let mut context = Context::open_by(area, None, flags).unwrap();
+        assert_eq!(lines(&context.frames(INLINED).unwrap()), FOUR_FRAMES);
+    }
+    assert_eq!(refused(Context::open_by(area, None, 2)), sys::ADDR2LINE_BAD_FLAGS);
+}
+
+#[test]
 fn answers_stay_when_their_context_is_closed() {
     let (frames, location) = {
         let bytes = bytes_of(AREA);

@@ -1,9 +1,9 @@
 -- Readings are decided by the name: a text before their own, more room, and more productions and
 -- levels left change nothing.
-use Rattle.std.proofs.Common.{◌≡◌, ◌≤◌, ◌+◌, ◌-◌, ℕ, zero, suc, Bool, true, false, List, [], ◌∷◌, ◌++◌, drop, length, ap, sym, subst, refl, arith}
+use Rattle.std.proofs.Common.{◌≡◌, ◌∙◌, ◌≤◌, ◌+◌, ◌-◌, ℕ, zero, suc, Bool, true, false, List, [], ◌∷◌, ◌++◌, drop, length, ap, sym, subst, refl, arith}
 use Rattle.std.proofs.lemmas.List.{append_assoc}
 use Rattle.std.proofs.lemmas.Bool.Decides.{nat_tests}
-use Rattle.std.specs.Prelude.{◌==◌, ◌||◌, if◌then◌else◌, nat_lt, Option, Some, None, option_map, option_and_then, IfSome, codes, encode_utf8}
+use Rattle.std.specs.Prelude.{◌==◌, ◌||◌, if◌then◌else◌, nat_lt, Option, Some, None, option_map, option_and_then, IfSome, IsNone, codes, encode_utf8}
 use Rattle.std.specs.Str.{byte}
 use Rattle.rust_v0.specs.declared.grammar.Production.{Production}
 use Rattle.rust_v0.specs.declared.grammar.Production.TheVariants.{TypePath, TraitPath, AnyType, BracedConstant, BareConstant, Pattern}
@@ -22,53 +22,71 @@ use Rattle.rust_v0.specs.Shown.{punycode_shown, say_chars, say_escaped, say_iden
 use Rattle.rust_v0.specs.Leaves.{abi, abi_name, abi_word, after_or, as_abi_word, as_scalar, bind, binder, boolean, character, counted_in, digit_pairs, hex_digits, identifier, if_next, index_after, integer, leaf_reading, letter, letter_at, lifetime_index, literal, more_levels, nothing, number, object_lifetime, reference_lifetime, root, say_abi_word, say_level, say_lifetime, say_named, say_spaced, scalar, segment, sign, string, unsafety}
 use Rattle.rust_v0.specs.Grammar.{Part, shown, single, inside, nested, place, reference, list, more, tuple, traits, contents, returned, head}
 use Rattle.rust_v0.specs.Reads.{Inner, argument, back_reference, before_binding, binding_name, bindings, bindings_on, bound_traits, bounded_trait, close, contents_of, count, field, field_name, function_result, hidden, impl_place, item_reading, items, lifetime_argument, more_from, more_items, nested_path, part_reading, parts_reading, place_before, reads, rule, shape_at, splat, tagged_parts, target, value, variant_contents, with_bytes, with_mode}
-use Rattle.rust_v0.specs.ReadLaws.{More, ReadsAlone, with_more}
+use Rattle.rust_v0.specs.ReadLaws.{LimitsOnlyRefuse, More, TextNotRead, before, with_more}
 
--- what a reading gives, another gives with more
+-- no more is left
+record IsTextAlone (m : More) : Type 0 where
+  room : m.room ≡ 0
+  left : m.left ≡ 0
+  levels : m.levels ≡ 0
+
+-- what a reading gives, another gives with more; where nothing but a text is more, both give nothing
+-- or both something
 record Alike (m : More) (o q : Option State) : Type 0 where
   same : IfSome o (λ r. q ≡ Some (with_more m r))
+  none : IsTextAlone m → IsNone o → q ≡ None
 
 record AlikeWith {A : Type 0} (m : More) (o q : Option (A × State)) : Type 0 where
   same : IfSome o (λ p. q ≡ Some (p.0, with_more m p.1))
+  none : IsTextAlone m → IsNone o → q ≡ None
 
-none_alike : (m : More) (q : Option State) → Alike m None q
-none_alike m q = record { same = tt }
+none_alike : (m : More) → Alike m None None
+none_alike m = record { same = tt; none = λ t h. refl }
+
+no_with : {A : Type 0} (m : More) → AlikeWith {A = A} m None None
+no_with m = record { same = tt; none = λ t h. refl }
+
+as_some : (m : More) (r : State) (q : Option State) → q ≡ Some (with_more m r) → Alike m (Some r) q
+as_some m r q h = record { same = h; none = λ t no. absurd (let e : true ≡ false = no in cc) }
+
+as_some_with : {A : Type 0} (m : More) (a : A) (r : State) (q : Option (A × State)) → q ≡ Some (a, with_more m r) → AlikeWith m (Some (a, r)) q
+as_some_with m a r q h = record { same = h; none = λ t no. absurd (let e : true ≡ false = no in cc) }
 
 same_alike : (m : More) (s : State) → Alike m (Some s) (Some (with_more m s))
-same_alike m s = record { same = refl }
+same_alike m s = as_some m s _ refl
 
 if_alike : (m : More) (b : Bool) (x y v w : Option State) → Alike m x v → Alike m y w → Alike m (if b then x else y) (if b then v else w)
 if_alike m true x y v w h g = h
 if_alike m false x y v w h g = g
 
 then_alike : (m : More) (o q : Option State) (f g : Reading) → Alike m o q → ((r : State) → Alike m (f r) (g (with_more m r))) → Alike m (option_and_then f o) (option_and_then g q)
-then_alike m None q f g h k = none_alike m _
+then_alike m None q f g h k = record { same = tt; none = λ t no. ap (λ x. option_and_then g x) (h.none t no) }
 then_alike m (Some r) q f g h k = subst (λ x. Alike m (f r) (option_and_then g x)) (sym h.same) (k r)
 
 with_alike : {A : Type 0} (m : More) (o q : Option (A × State)) (f g : A × State → Option State) → AlikeWith m o q
     → ((a : A) (r : State) → Alike m (f (a, r)) (g (a, with_more m r))) → Alike m (option_and_then f o) (option_and_then g q)
-with_alike m None q f g h k = none_alike m _
+with_alike m None q f g h k = record { same = tt; none = λ t no. ap (λ x. option_and_then g x) (h.none t no) }
 with_alike m (Some p) q f g h k = subst (λ x. Alike m (f p) (option_and_then g x)) (sym h.same) (k p.0 p.1)
 
 found_alike : {A : Type 0} (m : More) (o : Option A) (f g : A → Option State) → ((a : A) → Alike m (f a) (g a)) → Alike m (option_and_then f o) (option_and_then g o)
-found_alike m None f g h = none_alike m _
+found_alike m None f g h = none_alike m
 found_alike m (Some a) f g h = h a
 
 with_with : {A B : Type 0} (m : More) (o q : Option (A × State)) (f g : A × State → Option (B × State)) → AlikeWith m o q
     → ((a : A) (r : State) → AlikeWith m (f (a, r)) (g (a, with_more m r))) → AlikeWith m (option_and_then f o) (option_and_then g q)
-with_with m None q f g h k = record { same = tt }
+with_with m None q f g h k = record { same = tt; none = λ t no. ap (λ x. option_and_then g x) (h.none t no) }
 with_with m (Some p) q f g h k = subst (λ x. AlikeWith m (f p) (option_and_then g x)) (sym h.same) (k p.0 p.1)
 
 then_with : {A : Type 0} (m : More) (o q : Option State) (f g : State → Option (A × State)) → Alike m o q
     → ((r : State) → AlikeWith m (f r) (g (with_more m r))) → AlikeWith m (option_and_then f o) (option_and_then g q)
-then_with m None q f g h k = record { same = tt }
+then_with m None q f g h k = record { same = tt; none = λ t no. ap (λ x. option_and_then g x) (h.none t no) }
 then_with m (Some r) q f g h k = subst (λ x. AlikeWith m (f r) (option_and_then g x)) (sym h.same) (k r)
 
 -- ---- bytes of a state
 
 taken_alike : {A : Type 0} (m : More) (s : State) (o : Option (A × List ℕ)) → AlikeWith m (taken s o) (taken (with_more m s) o)
-taken_alike m s None = record { same = tt }
-taken_alike m s (Some p) = record { same = refl }
+taken_alike m s None = no_with m
+taken_alike m s (Some p) = as_some_with m p.0 (record s { bytes = p.1 }) _ refl
 
 after_alike : (m : More) (s : State) (o : Option (List ℕ)) (next step : Reading) (other otherwise : Option State) → ((r : State) → Alike m (next r) (step (with_more m r)))
     → Alike m other otherwise → Alike m (after_or s o next other) (after_or (with_more m s) o step otherwise)
@@ -98,22 +116,23 @@ digits_alike : (m : More) (s : State) → AlikeWith m (hex_digits s) (hex_digits
 digits_alike m s = taken_alike m s (nibbles s.bytes)
 
 bound_alike : (m : More) (s : State) (n : ℕ) → Alike m (Some (record s { bound = n })) (Some (record (with_more m s) { bound = n }))
-bound_alike m s n = record { same = refl }
+bound_alike m s n = as_some m (record s { bound = n }) _ refl
 
 open_alike : (m : More) (s : State) (b : Bool) → Alike m (Some (record s { is_open = b })) (Some (record (with_more m s) { is_open = b }))
-open_alike m s b = record { same = refl }
+open_alike m s b = as_some m (record s { is_open = b }) _ refl
 
 -- ---- texts
 
 say_room : (m : More) (text : List ℕ) (s : State) (p q : Bool) → nat_lt s.room (length text) ≡ p → nat_lt (s.room + m.room) (length text) ≡ q
     → Alike m (if p then None else Some (record s { room = s.room - length text; text = s.text ++ text }))
     (if q then None else Some (record (with_more m s) { room = s.room + m.room - length text; text = (m.text ++ s.text) ++ text }))
-say_room m text s true q d e = record { same = tt }
+say_room m text s true true d e = none_alike m
+say_room m text s true false d e = record { same = tt; none = λ t no. absurd (let none : m.room ≡ 0 = t.room in grind (arith, nat_tests, d, e, none)) }
 say_room m text s false true d e = absurd (grind (arith, nat_tests, d, e))
 say_room m text s false false d e =
     let room : s.room + m.room - length text ≡ s.room - length text + m.room = let le : length text ≤ s.room = grind (arith, nat_tests) in omega (arith, le) in
     let joined : (m.text ++ s.text) ++ text ≡ m.text ++ (s.text ++ text) = append_assoc m.text s.text text in
-    record { same = rw room (rw joined refl) }
+    as_some m (record s { room = s.room - length text; text = s.text ++ text }) _ (rw room (rw joined refl))
 
 say_alike : (m : More) (text : List ℕ) (s : State) → Alike m (say text s) (say text (with_more m s))
 unfolding say
@@ -188,7 +207,7 @@ unfolding reference_lifetime
 reference_lifetime_alike m s = search (alike_rules, lifetime_alike) depth 24
 
 index_as : (m : More) (s : State) (o : Option (List ℕ)) → AlikeWith m (index_after s o) (index_after (with_more m s) o)
-index_as m s None = record { same = tt }
+index_as m s None = no_with m
 index_as m s (Some rest) = number_alike m (record s { bytes = rest })
 
 index_alike : (m : More) (s : State) → AlikeWith m (lifetime_index s) (lifetime_index (with_more m s))
@@ -224,8 +243,8 @@ unfolding integer
 integer_alike m s = search alike_rules depth 24
 
 literal_as : (m : More) (n : ℕ) (s : State) (q : Bool) → AlikeWith m (if q then Some (n, s) else None) (if q then Some (n, with_more m s) else None)
-literal_as m n s true = record { same = refl }
-literal_as m n s false = record { same = tt }
+literal_as m n s true = as_some_with m n s _ refl
+literal_as m n s false = no_with m
 
 literal_alike : (m : More) (s : State) → AlikeWith m (literal s) (literal (with_more m s))
 unfolding literal
@@ -236,8 +255,8 @@ unfolding boolean
 boolean_alike m s = with_alike m _ _ _ _ (literal_alike m s) (λ n r. found_alike m _ _ _ (λ text. say_alike m text r))
 
 scalar_as : {A : Type 0} (m : More) (s : State) (o : Option A) → AlikeWith m (option_map (λ c. (c, s)) o) (option_map (λ c. (c, with_more m s)) o)
-scalar_as m s None = record { same = tt }
-scalar_as m s (Some c) = record { same = refl }
+scalar_as m s None = no_with m
+scalar_as m s (Some c) = as_some_with m c s _ refl
 
 scalar_alike : (m : More) (s : State) → AlikeWith m (scalar s) (scalar (with_more m s))
 unfolding scalar
@@ -256,8 +275,8 @@ unfolding unsafety
 unsafety_alike m s = search alike_rules depth 24
 
 pairs_as : (m : More) (digits : List ℕ) (s : State) (q : Bool) → AlikeWith m (if q then None else Some (digits, s)) (if q then None else Some (digits, with_more m s))
-pairs_as m digits s true = record { same = tt }
-pairs_as m digits s false = record { same = refl }
+pairs_as m digits s true = no_with m
+pairs_as m digits s false = as_some_with m digits s _ refl
 
 pairs_alike : (m : More) (s : State) → AlikeWith m (digit_pairs s) (digit_pairs (with_more m s))
 unfolding digit_pairs
@@ -287,8 +306,8 @@ abbrev InnerAlike : More → Inner → Inner → Type 0
 InnerAlike m inner deeper = (production : Production) (s : State) → Alike m (inner production s) (deeper production (with_more m s))
 
 mode_alike : (m : More) (mode : Mode) (o q : Option State) → Alike m o q → Alike m (option_map (with_mode mode) o) (option_map (with_mode mode) q)
-mode_alike m mode None q h = none_alike m _
-mode_alike m mode (Some r) q h = record { same = ap (λ x. option_map (with_mode mode) x) h.same }
+mode_alike m mode None q h = record { same = tt; none = λ t no. ap (λ x. option_map (with_mode mode) x) (h.none t no) }
+mode_alike m mode (Some r) q h = as_some m (with_mode mode r) _ (ap (λ x. option_map (with_mode mode) x) h.same)
 
 hidden_alike : (m : More) (inner deeper : Inner) → InnerAlike m inner deeper → (s : State) → Alike m (hidden inner s) (hidden deeper (with_more m s))
 unfolding hidden
@@ -304,16 +323,16 @@ nested_alike m inner deeper h path s =
     with_alike m _ _ _ _ (letter_alike m s) (λ space r. then_alike m _ _ _ _ (h path r) (λ around. segment_alike m space around))
 
 before_as : (m : More) (at : ℕ) (s : State) (q : Bool) → AlikeWith m (if q then Some (at, s) else None) (if q then Some (at, with_more m s) else None)
-before_as m at s true = record { same = refl }
-before_as m at s false = record { same = tt }
+before_as m at s true = as_some_with m at s _ refl
+before_as m at s false = no_with m
 
 before_alike : (m : More) (s : State) → AlikeWith m (place_before s) (place_before (with_more m s))
 unfolding place_before
 before_alike m s = with_with m _ _ _ _ (number_alike m s) (λ at r. before_as m at r _)
 
 bytes_alike : (m : More) (bytes : List ℕ) (o q : Option State) → Alike m o q → Alike m (option_map (with_bytes bytes) o) (option_map (with_bytes bytes) q)
-bytes_alike m bytes None q h = none_alike m _
-bytes_alike m bytes (Some r) q h = record { same = ap (λ x. option_map (with_bytes bytes) x) h.same }
+bytes_alike m bytes None q h = record { same = tt; none = λ t no. ap (λ x. option_map (with_bytes bytes) x) (h.none t no) }
+bytes_alike m bytes (Some r) q h = as_some m (with_bytes bytes r) _ (ap (λ x. option_map (with_bytes bytes) x) h.same)
 
 target_alike : (m : More) (inner deeper : Inner) → InnerAlike m inner deeper → (production : Production) (at : ℕ) (s : State)
     → Alike m (target inner production at s) (target deeper production at (with_more m s))
@@ -350,13 +369,13 @@ binding_name_alike m s = search alike_rules depth 24
 
 on_alike : (m : More) (is_bound : Bool) (s : State) (o : Option (List ℕ)) (next step : State → Option (Bool × State))
     → ((r : State) → AlikeWith m (next r) (step (with_more m r))) → AlikeWith m (bindings_on is_bound s o next) (bindings_on is_bound (with_more m s) o step)
-on_alike m is_bound s None next step h = record { same = refl }
+on_alike m is_bound s None next step h = as_some_with m is_bound s _ refl
 on_alike m is_bound s (Some rest) next step h = h (record s { bytes = rest })
 
 bindings_alike : (m : More) (inner deeper : Inner) → InnerAlike m inner deeper → (is_after is_bound : Bool) (turns : ℕ) (s : State)
     → AlikeWith m (bindings inner is_after is_bound turns s) (bindings deeper is_after is_bound turns (with_more m s))
 unfolding bindings
-bindings_alike m inner deeper h is_after is_bound zero s = record { same = refl }
+bindings_alike m inner deeper h is_after is_bound zero s = as_some_with m is_bound s _ refl
 bindings_alike m inner deeper h is_after is_bound (suc turns) s =
     on_alike m is_bound s (after (byte "p") s.bytes) _ _ (λ r.
     then_with m _ _ _ _ (say_alike m (before_binding is_after) r) (λ said.
@@ -389,7 +408,7 @@ one_more inner item between turns s = item_reading inner item s >>= more_items i
 more_alike : (m : More) (inner deeper : Inner) → InnerAlike m inner deeper → (item : Item) (between : List ℕ) (turns : ℕ) (s : State)
     → Alike m (more_items inner item between turns s) (more_items deeper item between turns (with_more m s))
 unfolding more_items
-more_alike m inner deeper h item between zero s = none_alike m _
+more_alike m inner deeper h item between zero s = none_alike m
 more_alike m inner deeper h item between (suc turns) s =
     next_alike m (byte "E") s nothing (λ r. say between r >>= one_more inner item between turns) nothing (λ r. say between r >>= one_more deeper item between turns) (λ r. same_alike m r)
     (then_alike m _ _ (one_more inner item between turns) (one_more deeper item between turns) (say_alike m between s) (λ said.
@@ -454,11 +473,12 @@ parts_alike m inner deeper h (part ∷ parts) s = then_alike m _ _ _ _ (part_ali
 
 count_as : (m : More) (s : State) (p q : Bool) → (s.left == 0) ≡ p → (s.left + m.left == 0) ≡ q
     → Alike m (if p then None else Some (record s { left = s.left - 1 })) (if q then None else Some (record (with_more m s) { left = s.left + m.left - 1 }))
-count_as m s true q d e = record { same = tt }
+count_as m s true true d e = none_alike m
+count_as m s true false d e = record { same = tt; none = λ t no. absurd (let none : m.left ≡ 0 = t.left in grind (arith, nat_tests, d, e, none)) }
 count_as m s false true d e = absurd (grind (arith, nat_tests, d, e))
 count_as m s false false d e =
     let left : s.left + m.left - 1 ≡ s.left - 1 + m.left = let pos : 1 ≤ s.left = grind (arith, nat_tests) in omega (arith, pos) in
-    record { same = rw left refl }
+    as_some m (record s { left = s.left - 1 }) _ (rw left refl)
 
 count_alike : (m : More) (s : State) → Alike m (count s) (count (with_more m s))
 count_alike m s = count_as m s _ _ refl refl
@@ -479,12 +499,39 @@ rule_alike m inner deeper h production s =
 
 levels_read_alike : (m : More) (levels : ℕ) → InnerAlike m (reads levels) (reads (levels + m.levels))
 unfolding reads
-levels_read_alike m zero production s = none_alike m _
+levels_read_alike m zero production s = record {
+  same = tt;
+  none = λ t no. let none : zero + m.levels ≡ zero = let z : m.levels ≡ 0 = t.levels in omega (arith, z) in ap (λ n. reads n production (with_more m s)) none;
+}
 levels_read_alike m (suc levels) production s =
     let next : suc levels + m.levels ≡ suc (levels + m.levels) = omega arith in
     subst (λ n. Alike m (reads (suc levels) production s) (reads n production (with_more m s))) (sym next)
     (rule_alike m (reads levels) (reads (levels + m.levels)) (levels_read_alike m levels) production s)
 
-pub reads_alone : ReadsAlone
-reads_alone m levels production s r e =
+-- ---- the laws
+
+pub limits_only_refuse : LimitsOnlyRefuse
+limits_only_refuse m levels production s r e =
     subst (λ o. IfSome o (λ r. reads (levels + m.levels) production (with_more m s) ≡ Some (with_more m r))) e (levels_read_alike m levels production s).same
+
+-- a text and no more
+abbrev text_alone : List ℕ → More
+text_alone text = record { text = text; room = 0; left = 0; levels = 0 }
+
+alone_before : (text : List ℕ) (s : State) → with_more (text_alone text) s ≡ before text s
+alone_before text s =
+    let room : s.room + 0 ≡ s.room = omega arith in
+    let left : s.left + 0 ≡ s.left = omega arith in
+    rw room (rw left refl)
+
+mapped : (text : List ℕ) (o q : Option State) → Alike (text_alone text) o q → q ≡ option_map (before text) o
+mapped text None q h = h.none (record { room = refl; left = refl; levels = refl }) refl
+mapped text (Some r) q h = h.same ∙ ap Some (alone_before text r)
+
+pub text_not_read : TextNotRead
+text_not_read text levels production s =
+    let same : levels + 0 ≡ levels = omega arith in
+    let h : Alike (text_alone text) (reads levels production s) (reads levels production (before text s)) =
+    subst (λ t. Alike (text_alone text) (reads levels production s) (reads levels production t)) (alone_before text s)
+    (subst (λ n. Alike (text_alone text) (reads levels production s) (reads n production (with_more (text_alone text) s))) same (levels_read_alike (text_alone text) levels production s)) in
+    mapped text (reads levels production s) (reads levels production (before text s)) h

@@ -10,6 +10,7 @@ pub mod LeafLemmas
 pub mod PartLemmas
 pub mod OnwardLemmas
 pub mod AloneLemmas
+pub mod HiddenLemmas
 pub mod NameLawProofs
 pub mod ReadLawProofs
 pub mod TextLawProofs

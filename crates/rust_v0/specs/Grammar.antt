@@ -1,6 +1,6 @@
 -- The grammar of v0 names: which parts each production is made of, in order, and their texts.
--- Source: Rust RFC 2603 and what rustc added: types of patterns, splat types, constants that are
--- references, texts, arrays, tuples or structs, and bindings of constants.
+-- Source: Rust RFC 2603 and what rustc added: types of patterns, constants that are references,
+-- texts, arrays, tuples or structs, and bindings of constants.
 use Rattle.std.specs.Prelude.{ℕ, ◌==◌, ◌||◌, Bool, true, false, List, [], ◌∷◌, if◌then◌else◌, Option, Some, None, option_and_then, codes}
 use Rattle.std.specs.Option.{option_or}
 use Rattle.std.specs.Str.{byte}

@@ -1,7 +1,7 @@
 -- Identifiers: words after their lengths, and Punycode.
 -- Source: Rust RFC 2603; RFC 3492 (Punycode).
--- Own: Punycode that is invalid, of more than 1,024 bytes or of more than 128 characters is shown as
--- it stands.
+-- Own: of Punycode that is invalid, of more than 1,024 bytes or of more than 128 characters, its own
+-- letters are shown, in `punycode{}`.
 use Rattle.std.specs.Prelude.{ℕ, ◌==◌, ◌&&◌, ◌||◌, Bool, true, false, List, ◌++◌, length, take, drop, nat_le, if◌then◌else◌, Option, Some, None, is_some, option_and_then, unwrap_or, codes}
 use Rattle.std.specs.Char.{is_ascii, is_ascii_digit, is_ascii_lowercase}
 use Rattle.std.specs.List.{list_all, prefix_len, before_last, after_last}

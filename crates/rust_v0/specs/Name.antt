@@ -1,8 +1,8 @@
 -- v0 names of Rust, and the text that each stands for.
 -- Source: Rust RFC 2603; what LLVM appends after `.llvm.`; the prefixes `R` and `__R` of other systems.
 -- Own: a name with any fault in what is read has no text; 500 levels, 65,536 productions and
--- 1,000,000 bytes of text of its path at most; which suffixes. Of a path that isn't shown the places
--- that references name and the lifetimes aren't looked at.
+-- 1,000,000 bytes of text of its path at most; which suffixes. Of a path that isn't shown neither what
+-- stands at the places that references name is read, nor whether lifetimes are bound.
 use Rattle.std.specs.Prelude.{ℕ, ◌==◌, ◌&&◌, ◌||◌, Bool, true, false, List, [], ◌∷◌, ◌++◌, length, drop, nat_eq, if◌then◌else◌, Option, Some, None, option_and_then, codes}
 use Rattle.std.specs.Char.{is_ascii, is_ascii_digit, is_ascii_graphic, is_ascii_uppercase}
 use Rattle.std.specs.Int.{is_in_range}

@@ -1,7 +1,7 @@
--- Laws of readings: they go on through the bytes, keep to what may be read and shown, show no path
--- that isn't shown, and are decided by the name alone.
+-- Laws of readings: they go on through the bytes, keep to what may be read and shown, add no text for
+-- a path that is only read, and look neither at the text so far nor, but to refuse, at the limits.
 -- Own: all of it.
-use Rattle.std.specs.Prelude.{◌≡◌, ◌≤◌, ◌<◌, ◌+◌, ◌-◌, ◌==◌, ◌++◌, ℕ, Bool, true, false, List, take, drop, length, Some, None}
+use Rattle.std.specs.Prelude.{◌≡◌, ◌≤◌, ◌<◌, ◌+◌, ◌-◌, ◌==◌, ◌++◌, ℕ, Bool, true, false, List, take, drop, length, Some, None, option_map}
 use Rattle.std.specs.List.{list_any}
 use Rattle.std.specs.Str.{byte}
 use Rattle.rust_v0.specs.declared.grammar.Production.{Production}
@@ -53,7 +53,8 @@ NameReadOnce =
     → paths (start Written spelled) ≡ Some r → has_reference spelled ≡ false
     → most_productions - r.left < length spelled - length r.bytes
 
--- readings go on from left to right, and read what holds no reference once
+-- readings go on from left to right, and of what holds no reference they read no more productions than
+-- bytes
 pub record ReadOnward : Type 0 where
   pub onward : ReadsOn
   pub once : ReadsOnce
@@ -98,8 +99,8 @@ TextGrows =
     (levels : ℕ) (production : Production) (s r : State)
     → reads levels production s ≡ Some r → take (length s.text) r.text ≡ s.text
 
--- so a name is read with one production at least and 65,536 at most (of as many, those that are left
--- are fewer), and what its path shows and the room that is left are 1,000,000 bytes
+-- so the path of a name takes one production at least of the 65,536 that there are, and what it shows
+-- and the room that is left are 1,000,000 bytes
 abbrev pub NameWithinLimits : Type 0
 NameWithinLimits =
     (spelled : List ℕ) (r : State)
@@ -112,6 +113,16 @@ pub record WithinLimits : Type 0 where
   pub count : KeepsCount
   pub text : TextGrows
   pub name : NameWithinLimits
+
+-- a state with a text before its own
+abbrev pub before : List ℕ → State → State
+before text s = record s { text = text ++ s.text }
+
+-- the text so far isn't looked at, also where there is a fault: what is shown stands behind it
+abbrev pub TextNotRead : Type 0
+TextNotRead =
+    (text : List ℕ) (levels : ℕ) (production : Production) (s : State)
+    → reads levels production (before text s) ≡ option_map (before text) (reads levels production s)
 
 -- what more a reading may be given: a text that stands before its own, room, productions and levels
 pub record More : Type 0 where
@@ -128,10 +139,14 @@ with_more m s = record s {
   left = s.left + m.left;
 }
 
--- with more before it and more left, a production reads and shows the same: the name, the binders
--- around and whether it is shown decide its text, and the limits only refuse
-abbrev pub ReadsAlone : Type 0
-ReadsAlone =
+-- limits only refuse: what is read and shown within them is the same where more is left
+abbrev pub LimitsOnlyRefuse : Type 0
+LimitsOnlyRefuse =
     (m : More) (levels : ℕ) (production : Production) (s r : State)
     → reads levels production s ≡ Some r
     → reads (levels + m.levels) production (with_more m s) ≡ Some (with_more m r)
+
+-- what a production reads and shows depends neither on the text so far nor on a limit
+pub record ReadsAlone : Type 0 where
+  pub text : TextNotRead
+  pub limits : LimitsOnlyRefuse

@@ -1,7 +1,8 @@
 -- How each production of a v0 name reads, by levels: one further in for each production inside
 -- another.
--- Source: Rust RFC 2603. Own: a path that isn't shown is read, and its references are not followed;
--- the levels, and how many productions are read.
+-- Source: Rust RFC 2603 and what rustc added: the `w` before a type. Own: a path that isn't shown is
+-- read, and what stands at the places that its references name is not; the levels, and how many
+-- productions are read.
 use Rattle.std.specs.Prelude.{ℕ, zero, suc, ◌+◌, ◌-◌, ◌==◌, ◌||◌, Bool, true, false, List, [], ◌∷◌, length, drop, nat_lt, if◌then◌else◌, Option, Some, None, option_map, codes}
 use Rattle.std.specs.Str.{byte}
 use Rattle.rust_v0.specs.declared.grammar.Production.{Production}
@@ -53,7 +54,7 @@ nested_path inner path s = do
 abbrev pub if_before : ℕ → ℕ × State → Option (ℕ × State)
 if_before here at = if nat_lt at.0 here then Some at else None
 
--- the place that a reference names: one before that of its own tag
+-- the place that a reference names: any before that of its own tag
 unfoldable pub place_before : State → Option (ℕ × State)
 place_before s = number s >>= if_before (length s.name - (length s.bytes + 1))
 
@@ -63,7 +64,7 @@ target inner production at s =
     if is_hidden s.mode then Some s
     else option_map (with_bytes s.bytes) (inner production (with_bytes (drop at s.name) s))
 
--- a reference: a place before its own, and the production as it reads from there
+-- a reference: a place before its own, and what this production reads from there
 unfoldable pub back_reference : Inner → Production → Reading
 back_reference inner production s = place_before s >>= λ at. target inner production at.0 at.1
 

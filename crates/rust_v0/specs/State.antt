@@ -1,6 +1,6 @@
 -- What is left to read of a name, what may still be read and shown, and the text so far.
 -- Own: all of it.
-use Rattle.std.specs.Prelude.{◌≡◌, ℕ, ◌-◌, Bool, true, false, List, ◌++◌, length, nat_lt, if◌then◌else◌, Option, Some, None, option_map, option_and_then, Result, Ok, Err, string_bytes}
+use Rattle.std.specs.Prelude.{◌≡◌, ℕ, ◌-◌, ◌+◌, ◌<◌, ◌≤◌, Bool, true, false, List, ◌++◌, length, nat_lt, if◌then◌else◌, Option, Some, None, option_map, option_and_then, Result, Ok, Err, string_bytes, string_capacity, string_len}
 use Rattle.rust_v0.specs.Numbers.{after}
 use Rattle.rust_v0.specs.declared.printer.Mode.{Mode}
 use Rattle.rust_v0.specs.declared.printer.Mode.TheVariants.{Written, Hidden}
@@ -57,7 +57,8 @@ abbrev pub Gives : {A B : Type 0} → (A → B) → Result A Fault → State →
 Gives view (Ok x) new reading = reading ≡ Some (view x, new)
 Gives view (Err e) new reading = reading ≡ None
 
--- the call left what the reading gives, and failed where it gives nothing, or a growth was refused
+-- the call left what the reading gives, and told a fault where it gives nothing; it may tell that a
+-- growth was refused in place of either
 abbrev pub Moves : {A : Type 0} → Result A Stop → State → Option State → Type 0
 Moves (Ok x) new reading = reading ≡ Some new
 Moves (Err e) new reading = e ≡ stops.Fault → reading ≡ None
@@ -87,3 +88,10 @@ say text s =
     if is_hidden s.mode then Some s
     else (if nat_lt s.room (length text) then None
     else Some (record s { room = s.room - length text; text = s.text ++ text }))
+
+-- memory was refused for a text: it is shown, it is within the room, and the memory that is there
+-- is too small for it
+pub record RefusesText (text : List ℕ) (p : Printer) : Type 0 where
+  pub shown : is_hidden p.mode ≡ false
+  pub within : length text ≤ p.room
+  pub full : string_capacity p.text < string_len p.text + length text

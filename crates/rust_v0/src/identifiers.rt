@@ -213,7 +213,8 @@ fn if_valid(given: Result<Vec<char>, Errors>) -> Result<Option<Vec<char>>, Alloc
     }
 }
 
-/// The characters that Punycode stands for, if it is valid and they are at most 128.
+/// The characters that Punycode stands for, if it is valid, its digits are lower case, and it has at
+/// most 1,024 bytes and 128 characters.
 #[tactic(auto, unfolding(crate::specs::Identifiers::decoded))]
 pub(crate) fn decoded(
     alloc: Global,

@@ -16,8 +16,8 @@ pub fn worked_name()
     ensures law { WorkedName }
 {}
 
-/// A text has at most 1,000,000 bytes and the length of its name: the text of a path keeps to the
-/// limit, and the suffix is a part of the name.
+/// A text has at most 1,000,000 bytes more than its name has: the text of a path keeps to the limit,
+/// and the suffix is a part of the name.
 pub fn bounded_text()
     ensures law { BoundedText }
 {}
@@ -42,9 +42,10 @@ pub fn hidden_adds_nothing()
     ensures law { HiddenAddsNothing }
 {}
 
-/// The text of a production is a function of the name, of the place where it is read, of the binders
-/// around it and of whether it is shown. It doesn't depend on the text so far, and no limit changes
-/// it: where more may be read or shown, what had a text has the same one.
+/// What a production reads and shows depends neither on the text so far nor on how much is left: with
+/// another text before it the same is shown behind that, or the same is a fault. Where more may be
+/// read or shown, what had a text has the same one. What is left to depend on are the production, the
+/// name, the place in it, the binders around, whether it is shown, and an open path of a trait.
 pub fn reads_alone()
     ensures law { ReadsAlone }
 {}

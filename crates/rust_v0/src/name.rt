@@ -1,6 +1,6 @@
 //! Names: their prefix, their path, what follows it.
 
-ghost use Rattle.std.specs.Prelude.{◌≡◌, ◌++◌, true, None, Some, Ok, MatchOption, IfOk, IfSome, OnOk, option_map, string_bytes};
+ghost use Rattle.std.specs.Prelude.{◌≡◌, ◌++◌, true, false, None, Some, Ok, MatchOption, IfOk, IfSome, OnOk, option_map, string_bytes};
 ghost use Rattle.std.specs.Char.{is_ascii, is_ascii_graphic};
 ghost use Rattle.std.specs.List.{list_all};
 ghost use Rattle.rust_v0.specs.State.{Moves, state_of};
@@ -149,8 +149,9 @@ impl<'a> Printer<'a> {
 
     /// The text and the suffix, which stands after it as it is.
     fn suffixed(self) -> Result<Option<String>, AllocError>
-        ensures { IfOk result (λ found.
+        ensures gives { IfOk result (λ found.
             option_map string_bytes found ≡ suffixed (state_of self.entry)) }
+        ensures none { is_suffix self.entry.rest.now ≡ false → result ≡ Ok None }
     {
         let Printer { rest, mut text, .. } = self;
         if !is_suffix(rest) {
@@ -192,11 +193,12 @@ fn demangle_spelled(alloc: Global, spelled: &[u8]) -> Result<Option<String>, All
 /// numbers of crates, and the suffix. What LLVM appends after `.llvm.` is no part of the name. A
 /// name has no text where anything in it is no production of the grammar, also at a place that a
 /// reference names, or where a limit is passed: 500 levels of productions inside one another,
-/// 65,536 productions, 1,000,000 bytes of text of the path. A path that isn't shown is read, its
-/// references are not followed, and its lifetimes need no binder.
+/// 65,536 productions, 1,000,000 bytes of text of the path. A path that isn't shown is read: its
+/// references name places before themselves, but what stands there isn't read, and its lifetimes
+/// need no binder.
 ///
-/// Refused `AllocError` where a growth was refused. Takes no memory where the name doesn't begin
-/// as a v0 name.
+/// Refused `AllocError` where a growth was refused, and never where no path can begin: where the
+/// name has no prefix, or what follows isn't all ASCII or doesn't begin with an upper case letter.
 ///
 /// Source: Rust RFC 2603 and what rustc added; RFC 3492. Own: the limits; characters past ASCII
 /// between quotes stand as escapes.

@@ -21,7 +21,7 @@ use std::alloc::Global;
 pub(crate) enum Mode {
     /// It is written.
     Written,
-    /// It is left out, as are the places that references name.
+    /// It is left out, and what stands at the places that references name isn't read.
     Hidden,
 }
 

@@ -1,6 +1,7 @@
 //! The reading of productions, by levels.
 
-ghost use Rattle.std.specs.Prelude.{◌≡◌, ◌+◌, ◌-◌, ◌≤◌, IfOk, length, map, true, false};
+ghost use Rattle.std.specs.Prelude.{◌≡◌, ◌+◌, ◌-◌, ◌≤◌, Err, IfOk, length, map, true, false};
+ghost use Rattle.rust_v0.specs.declared.stop.Stop.TheVariants as stops;
 ghost use Rattle.rust_v0.specs.Grammar.{part_of};
 ghost use Rattle.rust_v0.specs.State.{Gives, Moves, MovesTo, Passes, state_of};
 ghost use Rattle.rust_v0.specs.Reads.{back_reference, bindings, binding_name, bound_traits, bounded_trait, close, count, field_name, function_result, hidden, impl_place, item_reading, items, lifetime_argument, more_from, nested_path, part_reading, place_before, reads, rule, shape, shape_of, splat, tagged_parts, value, variant_contents};
@@ -71,7 +72,7 @@ impl<'a> Printer<'a> {
         self.name.len().saturating_sub(self.rest.len() + 1)
     }
 
-    /// The place that a reference names: one before that of its own tag.
+    /// The place that a reference names: any before that of its own tag.
     #[tactic(auto, unfolding(crate::specs::Reads::place_before))]
     fn place_before(&mut self) -> Result<usize, Fault>
         ensures gives { Gives (λ at. at) result (state_of self.new)
@@ -140,7 +141,9 @@ impl<'a> Printer<'a> {
     #[cycle(read)]
     #[tactic(auto, using(crate::proofs::ReadLemmas::reads_none, crate::proofs::ReadLemmas::reads_more))]
     pub(crate) fn read(&mut self, levels: u32, production: Production) -> Result<(), Stop>
-        ensures { Moves result (state_of self.new) (reads levels production (state_of self.old)) }
+        ensures gives { Moves result (state_of self.new)
+            (reads levels production (state_of self.old)) }
+        ensures none { levels ≡ 0 → result ≡ Err stops.Fault }
     {
         let inner = levels.checked_sub(1).ok_or(Fault)?;
         self.rule(inner, production)

@@ -1,4 +1,4 @@
-//! Why a reading stops.
+//! What ends a reading.
 
 use std::alloc::AllocError;
 
@@ -6,7 +6,7 @@ use std::alloc::AllocError;
 #[derive(Clone, Copy)]
 pub(crate) struct Fault;
 
-/// Why a name has no text.
+/// Why a reading stops.
 #[derive(Clone, Copy)]
 pub(crate) enum Stop {
     /// The bytes are no v0 name, or a limit is passed.

@@ -1,4 +1,5 @@
-//! Names and their texts, of RFC 2603, rustc and rustc-demangle 0.1.28.
+//! Names and their texts, of RFC 2603, rustc and rustc-demangle 0.1.28; the texts of characters past
+//! ASCII between quotes, and most of the names that have none, are by this crate's own rules.
 
 use crate::demangle_v0;
 use std::alloc::{AllocError, Global};
@@ -195,18 +196,18 @@ const IDENTIFIERS: [(&str, &str); 8] = [
 ];
 
 // Back references.
-const BACK_REFERENCES: [(&str, &str); 4] = [
+const BACK_REFERENCES: [(&str, &str); 3] = [
     (
         "_RINvC1a1fTmhEB7_RB7_E",
         "a::f::<(u32, u8), (u32, u8), &(u32, u8)>",
     ),
     ("_RINvC1a1fNtNtB2_1b1cB7_E", "a::f::<a::b::c, a::b::c>"),
     ("_RINvC1a1fTTTpBa_EEEE", "a::f::<(((_, _),),)>"),
-    ("_RNvC1a1bC1c", "a::b"),
 ];
 
-// Prefixes and suffixes.
-const PREFIXES_SUFFIXES: [(&str, &str); 7] = [
+// Prefixes, crates that made the instance, suffixes.
+const PREFIXES_SUFFIXES: [(&str, &str); 8] = [
+    ("_RNvC1a1bC1c", "a::b"),
     ("_RNvC1a1b.cold", "a::b.cold"),
     ("_RNvC1a1b.llvm.12AB@3", "a::b"),
     ("_RNvC1a1b.llvm.12ab", "a::b.llvm.12ab"),
@@ -216,7 +217,7 @@ const PREFIXES_SUFFIXES: [(&str, &str); 7] = [
     ("__RNvC1a1b", "a::b"),
 ];
 
-// References that few programs write: to any place, into a word.
+// Names that few programs write: references to any place, into a word; other bytes in a word; no bytes.
 const ODD_REFERENCES: [(&str, &str); 5] = [
     ("_RINvC1a1fB2_E", "a::f::<a>"),
     ("_RINvC1a1fB0_hE", "a::f::<a::f, u8>"),
@@ -226,7 +227,7 @@ const ODD_REFERENCES: [(&str, &str); 5] = [
 ];
 
 // No names: cut, of another version, with a digit, tag or place that is none, too deep, too long.
-const NONE: [&str; 38] = [
+const NONE: [&str; 45] = [
     "_R",
     "_RN",
     "_RNvC1a",
@@ -265,6 +266,13 @@ const NONE: [&str; 38] = [
     "_RINvC1a1fKb10000000000000000_E",
     "_RINvC1a1fKVC1aXE",
     "_RINvC1a1fwwmE",
+    "_RNvC1asZZZZZZZZZZZ_1b",
+    "_RNvMsZZZZZZZZZZZ_C1am1f",
+    "_RINvC1a1fKVC1bSsZZZZZZZZZZZ_1xh1_EE",
+    "_RINvC1a1fKVC1bSh1_EE",
+    "_RINvC1a1fDC1bpAhEL_E",
+    "_RINvC1a1fRLlYGhA16ahyf_hE",
+    "_RINvC1a1fFGlYGhA16ahye_EuE",
 ];
 
 // Pairs of pairs, the second of each a reference to the first: 14 of them are 49,153 productions, 15
@@ -363,7 +371,7 @@ fn prefixes_suffixes_have_their_texts(rt: HostRuntime) {
 }
 
 #[test]
-fn a_reference_names_any_place_before_it(rt: HostRuntime) {
+fn odd_names_have_their_texts(rt: HostRuntime) {
     for (name, text) in ODD_REFERENCES {
         assert_eq!(rt; compared(rt.alloc(), name, text), 0, "{name}");
     }
@@ -384,41 +392,67 @@ fn has_text(alloc: Global, name: &str) -> u8 {
     }
 }
 
-/// A function with one argument: slices of `u32`, so many inside one another.
-fn slices(alloc: Global, slice: &str, count: u32) -> Result<String, AllocError> {
-    let mut name = String::from_str(alloc, "_RINvC1a1f")?;
+/// A text so many times between two others.
+fn repeated(
+    alloc: Global,
+    before: &str,
+    piece: &str,
+    count: u32,
+    after: &str,
+) -> Result<String, AllocError> {
+    let mut name = String::from_str(alloc, before)?;
     for _ in 0..count {
-        name.push_str(slice)?;
+        name.push_str(piece)?;
     }
-    name.push_str("mE")?;
+    name.push_str(after)?;
     Ok(name)
 }
 
-/// Whether a function of so many slices has a text, as `has_text` says it.
-fn slices_have_text(alloc: Global, slice: &str, count: u32) -> u8 {
-    match slices(alloc, slice, count) {
+/// Whether a name that repeats a text has one, as `has_text` says it.
+fn repeated_has_text(alloc: Global, before: &str, piece: &str, count: u32, after: &str) -> u8 {
+    match repeated(alloc, before, piece, count, after) {
         Ok(name) => has_text(alloc, name.as_str()),
         Err(_) => 2,
     }
 }
 
+/// The same of a function with so many times a letter, and `u32`, as its arguments.
+fn argument_has_text(alloc: Global, letters: &str, count: u32) -> u8 {
+    repeated_has_text(alloc, "_RINvC1a1f", letters, count, "mE")
+}
+
 #[test]
 fn five_hundred_levels_are_read(rt: HostRuntime) {
     // The path and `u32` are two of them.
-    assert_eq!(rt; slices_have_text(rt.alloc(), "S", 498), 1);
-    assert_eq!(rt; slices_have_text(rt.alloc(), "S", 499), 0);
+    assert_eq!(rt; argument_has_text(rt.alloc(), "S", 498), 1);
+    assert_eq!(rt; argument_has_text(rt.alloc(), "S", 499), 0);
 }
 
 #[test]
 fn a_type_and_the_w_before_it_are_one_level(rt: HostRuntime) {
-    assert_eq!(rt; slices_have_text(rt.alloc(), "wS", 498), 1);
-    assert_eq!(rt; slices_have_text(rt.alloc(), "wS", 499), 0);
+    assert_eq!(rt; argument_has_text(rt.alloc(), "wS", 498), 1);
+    assert_eq!(rt; argument_has_text(rt.alloc(), "wS", 499), 0);
 }
 
 #[test]
 fn productions_are_counted(rt: HostRuntime) {
     assert_eq!(rt; has_text(rt.alloc(), PAIRS_14), 1);
     assert_eq!(rt; has_text(rt.alloc(), PAIRS_15), 0);
+    // Three of the path, and one for each argument.
+    assert_eq!(rt; argument_has_text(rt.alloc(), "m", 65_532), 1);
+    assert_eq!(rt; argument_has_text(rt.alloc(), "m", 65_533), 0);
+}
+
+#[test]
+fn a_million_bytes_are_shown(rt: HostRuntime) {
+    assert_eq!(rt;
+        repeated_has_text(rt.alloc(), "_RC1000000", "a", 1_000_000, ""),
+        1
+    );
+    assert_eq!(rt;
+        repeated_has_text(rt.alloc(), "_RC1000001", "a", 1_000_001, ""),
+        0
+    );
 }
 
 // Each growth is refused in turn by `tools/refuse_growths`.

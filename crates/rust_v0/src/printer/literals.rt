@@ -177,10 +177,14 @@ impl<'a> Printer<'a> {
     }
 
     /// Adds bytes as a string.
+    #[tactic(auto, using(crate::proofs::HiddenLemmas::string_hidden))]
     fn say_string(&mut self, bytes: &[u8]) -> Result<(), Stop>
         ensures { Moves result (state_of self.new) (say_string bytes.now (state_of self.old)) }
     {
         let text = text_of(bytes).ok_or(Fault)?;
+        if self.mode.is_hidden() {
+            return Ok(());
+        }
         let chars = chars_of(self.alloc, text)?;
         self.say("\"")?;
         self.say_quoted(&chars)?;

@@ -1,10 +1,11 @@
 //! Texts that are shown.
 
-ghost use Rattle.std.specs.Prelude.{◌≡◌, true, decimal, codes};
+ghost use Rattle.std.specs.Prelude.{◌≡◌, true, decimal, codes, Err};
 ghost use Rattle.std.specs.Char.{is_ascii};
 ghost use Rattle.std.specs.Char.Escape.{escape_unicode};
 ghost use Rattle.std.specs.List.{list_all};
-ghost use Rattle.rust_v0.specs.State.{Moves, identifier_of, say, state_of};
+ghost use Rattle.rust_v0.specs.State.{Moves, RefusesText, identifier_of, say, state_of};
+ghost use Rattle.rust_v0.specs.declared.stop.Stop.TheVariants.{OutOfMemory};
 ghost use Rattle.rust_v0.specs.Shown.{say_char, say_chars, say_decimal, say_escaped, say_identifier, say_punycode, say_quote};
 
 use crate::identifiers::{Identifier, decoded, hyphenated};
@@ -16,7 +17,8 @@ impl<'a> Printer<'a> {
     /// Adds a text, if it has room.
     #[tactic(auto, unfolding(crate::specs::State::say))]
     pub(crate) fn say(&mut self, text: &str) -> Result<(), Stop>
-        ensures { Moves result (state_of self.new) (say text.now (state_of self.old)) }
+        ensures gives { Moves result (state_of self.new) (say text.now (state_of self.old)) }
+        ensures refused { result ≡ Err OutOfMemory → RefusesText text.now self.old }
     {
         if self.mode.is_hidden() {
             return Ok(());

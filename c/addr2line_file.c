@@ -121,6 +121,9 @@ addr2line_status addr2line_file_open_with(const char *path, const char *sup_path
     struct addr2line_mapped *main_file;
     struct addr2line_mapped *sup_file = NULL;
     addr2line_status status;
+    if (path == NULL || file == NULL) {
+        return ADDR2LINE_NO_PLACE;
+    }
     addr2line_file_close(file);
     if ((flags & ~(ADDR2LINE_DECOMPRESS | ADDR2LINE_FILE_MAP)) != 0) {
         return ADDR2LINE_BAD_FLAGS;
@@ -154,11 +157,14 @@ addr2line_status addr2line_file_open(const char *path, const char *sup_path, add
 
 int addr2line_file_errno(const addr2line_file *file)
 {
-    return file->error;
+    return file == NULL ? 0 : file->error;
 }
 
 void addr2line_file_close(addr2line_file *file)
 {
+    if (file == NULL) {
+        return;
+    }
     addr2line_close(&file->handle);
     while (file->mapped != NULL) {
         struct addr2line_mapped *node = file->mapped;
@@ -305,6 +311,9 @@ static addr2line_status answer_first(addr2line_file *file)
 
 addr2line_status addr2line_file_answer_loads(addr2line_file *file)
 {
+    if (file == NULL) {
+        return ADDR2LINE_NO_PLACE;
+    }
     for (;;) {
         addr2line_status status = answer_first(file);
         if (status == ADDR2LINE_NOTHING) {
@@ -321,6 +330,9 @@ addr2line_status addr2line_file_find_frames(addr2line_file *file, uint64_t addre
                                             addr2line_frame *frames, size_t capacity, size_t *count,
                                             char *text, size_t text_size, size_t *needed)
 {
+    if (file == NULL) {
+        return ADDR2LINE_NO_PLACE;
+    }
     for (;;) {
         addr2line_status status = addr2line_find_frames(&file->handle, address, flags, frames, capacity,
                                                         count, text, text_size, needed);

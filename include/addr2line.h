@@ -10,7 +10,8 @@
  *   - A handle is used by one call at a time, and stays on the thread that opened it. Threads may each have
  *     handles of their own, also over the same bytes.
  *   - Each call writes only into what its arguments point to, which must not overlap one another. A pointer
- *     to a buffer, or to bytes, whose length is 0 is not touched, and may be NULL; no other may be.
+ *     to a buffer, or to bytes, whose length is 0 is not touched, and may be NULL. Where another one is NULL
+ *     the call does nothing and gives ADDR2LINE_NO_PLACE; addr2line_close gives nothing.
  *   - Addresses are as the file has them. For an address of a running program, take the address at which
  *     the file is loaded from it first; for one that a call returns to, take 1 too.
  *
@@ -30,8 +31,10 @@
 extern "C" {
 #endif
 
-/* What addr2line_version gives for this header. */
+/* What addr2line_version gives for this header: it grows with each change of what may be called. */
 #define ADDR2LINE_VERSION 3
+/* The version of the release, as a text. */
+#define ADDR2LINE_RELEASE "0.1.0"
 
 /* What a call comes to. */
 typedef uint32_t addr2line_status;
@@ -50,6 +53,8 @@ typedef uint32_t addr2line_status;
 #define ADDR2LINE_OTHER_UNIT 5u
 /* A bit of `flags` is none of the call's flags; nothing was done. */
 #define ADDR2LINE_BAD_FLAGS 6u
+/* A pointer that may not be is NULL; nothing was done. */
+#define ADDR2LINE_NO_PLACE 7u
 
 /* Memory was refused. Nothing is lost: the same call may be made again. */
 #define ADDR2LINE_OUT_OF_MEMORY 16u

@@ -45,6 +45,7 @@ enum class Status : addr2line_status {
     closed = ADDR2LINE_CLOSED,
     other_unit = ADDR2LINE_OTHER_UNIT,
     bad_flags = ADDR2LINE_BAD_FLAGS,
+    no_place = ADDR2LINE_NO_PLACE,
     out_of_memory = ADDR2LINE_OUT_OF_MEMORY,
     cannot_read = ADDR2LINE_CANNOT_READ,
     not_elf = ADDR2LINE_NOT_ELF,

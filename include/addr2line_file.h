@@ -35,7 +35,7 @@ typedef struct addr2line_file {
  * Opens the file at a path, with the supplementary file at sup_path, if that isn't NULL; `flags` are bits: 0,
  * ADDR2LINE_DECOMPRESS, ADDR2LINE_FILE_MAP or both. What was open is closed first. ADDR2LINE_BAD_FLAGS where
  * another bit is set. ADDR2LINE_CANNOT_READ where a file isn't a regular one or can't be read, else as
- * addr2line_open_with.
+ * addr2line_open_with. Of the pointers here only sup_path may be NULL.
  */
 addr2line_status addr2line_file_open_with(const char *path, const char *sup_path, uint32_t flags,
                                           addr2line_file *file);

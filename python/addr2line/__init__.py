@@ -23,7 +23,7 @@ import warnings
 from types import TracebackType
 from typing import Any, Iterator, List, NamedTuple, Optional, Type, Union
 
-OK, TOO_SMALL, WAITS, NOTHING, CLOSED, OTHER_UNIT, BAD_FLAGS, OUT_OF_MEMORY = 0, 1, 2, 3, 4, 5, 6, 16
+OK, TOO_SMALL, WAITS, NOTHING, CLOSED, OTHER_UNIT, BAD_FLAGS, NO_PLACE, OUT_OF_MEMORY = 0, 1, 2, 3, 4, 5, 6, 7, 16
 NOT_ELF, COMPRESSED_SECTION = 18, 20
 DECOMPRESS = 1
 DEMANGLE, DEMANGLE_RUST = 1, 2

@@ -28,6 +28,8 @@ pub const ADDR2LINE_CLOSED: addr2line_status = 4;
 pub const ADDR2LINE_OTHER_UNIT: addr2line_status = 5;
 /// A bit of the flags is none of the call's flags; nothing was done.
 pub const ADDR2LINE_BAD_FLAGS: addr2line_status = 6;
+/// A pointer that may not be is null; nothing was done.
+pub const ADDR2LINE_NO_PLACE: addr2line_status = 7;
 /// Memory was refused.
 pub const ADDR2LINE_OUT_OF_MEMORY: addr2line_status = 16;
 /// The file can't be read; of `addr2line_file.h` alone.

@@ -188,8 +188,11 @@ class _Bytes:
             self.map = mmap.mmap(number, 0, access=mmap.ACCESS_COPY) if self.size else None
         finally:
             os.close(number)
-        self.view = (ctypes.c_char * self.size).from_buffer(self.map) if self.size else None
-        self.at = ctypes.addressof(self.view) if self.size else None
+        self.view: Optional[ctypes.Array[ctypes.c_char]] = None
+        self.at: Optional[int] = None
+        if self.map is not None:
+            self.view = (ctypes.c_char * self.size).from_buffer(self.map)
+            self.at = ctypes.addressof(self.view)
 
     def release(self) -> None:
         self.view = None

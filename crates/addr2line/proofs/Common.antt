@@ -52,6 +52,6 @@ pub use Rattle.addr2line.specs.Lookups.{IsFaultOfAsked, IsLoadOf, UnitResult, as
 pub use Rattle.addr2line.specs.Replies.{CopiedReply, SuspendedAt, copied_frame, copied_load, reply_of_frames, reply_of_range, reply_of_unit}
 pub use Rattle.addr2line.specs.RecordedCalls.{given_by, as_call, as_given}
 pub use Rattle.addr2line.specs.OwnedReplies.{as_owned_frame, as_owned_load, as_owned_span, as_reply}
-pub use Rattle.addr2line.specs.SplitFiles.{has_wanted_id, of_file, or_none, split_at_path}
-unfoldable pub use Rattle.addr2line.specs.SplitFiles.{given_by_files, split_by, split_of}
+pub use Rattle.addr2line.specs.SplitFiles.{id_of_unit, is_same_id, of_file, or_none, split_at_path}
+unfoldable pub use Rattle.addr2line.specs.SplitFiles.{first_id_by, given_by_files, split_by, split_of}
 pub use Rattle.addr2line.specs.WaitingLookups.{count_loads, found_of_context}

@@ -1,5 +1,5 @@
 -- Files that are kept by their paths (on specs/KeptFiles.antt).
-use Rattle.addr2line.proofs.Common.{◌≡◌, ℕ, Bool, false, true, List, Option, Some, Result, Ok, Err, refl, sym, ap, is_ok, option_map, ◌∙◌, if◌then◌else◌, Decides-and, Decides-eqb, Decides-int_eq, ObjectFile}
+use Rattle.addr2line.proofs.Common.{◌≡◌, ◌≢◌, inl, inr, ℕ, Bool, false, true, List, Option, Some, None, Result, Ok, Err, refl, sym, ap, subst, is_ok, option_map, ◌∙◌, if◌then◌else◌, Decides-and, Decides-eqb, Decides-int_eq, ObjectFile, IfSome, Loading, Sections, SplitLoad}
 use Rattle.std.specs.Prelude.{IsErr}
 use Rattle.std.specs.Bool.{Decides}
 use Rattle.std.specs.Str.{bytes_eq}
@@ -10,7 +10,12 @@ use Rattle.addr2line.specs.declared.files.FileStamp.{FileStamp}
 use Rattle.addr2line.specs.declared.files.FileTime.{FileTime}
 use Rattle.addr2line.specs.declared.kept_files.KeptFile.{KeptFile}
 use Rattle.addr2line.specs.declared.kept_files.KeptFiles.{KeptFiles}
-use Rattle.addr2line.specs.KeptFiles.{ChangesAt, IsKeptAt, kept_at}
+use Rattle.addr2line.specs.declared.compressed.CompressedSections.{CompressedSections}
+use Rattle.addr2line.specs.declared.kept_files.SplitFound.{SplitFound}
+use Rattle.addr2line.specs.declared.kept_files.SplitFound.TheVariants.{Other, Wanted}
+use Rattle.addr2line.specs.declared.split_files.AnsweringFile.{AnsweringFile}
+use Rattle.addr2line.specs.KeptFiles.{ChangesAt, HasAnswered, IsKeptAt, KeepsStamped, kept_at}
+use Rattle.addr2line.specs.SplitFiles.{Answers, AreOfSomeFile, HasOtherId, IfWanted, found_as, wanted_by}
 
 -- a test decides whether it is true
 itself : (b : Bool) → Decides b (b ≡ true)
@@ -31,11 +36,11 @@ same_stamp a b h =
     ∙ ap (λ (t : FileTime). record { device = b.device; inode = b.inode; len = b.len; modified = t; changed = a.changed }) (same_time a.modified b.modified p.1.1.1.0)
     ∙ ap (λ (t : FileTime). record { device = b.device; inode = b.inode; len = b.len; modified = b.modified; changed = t }) (same_time a.changed b.changed p.1.1.1.1)
 
--- a file that is kept with a stamp is the one that is kept with it
-pub found_with : (kept : Option KeptFile) (found : KeptFile) (stamp : FileStamp) → Some found ≡ kept → found.stamp ≡ stamp → (object : ObjectFile) → (Some found.object ≡ Some object → kept ≡ Some (record { stamp = stamp; object = object })) × (kept ≡ Some (record { stamp = stamp; object = object }) → Some found.object ≡ Some object)
-found_with kept found stamp is same object = (
-  (λ p. sym is ∙ ap (λ s. Some (record { stamp = s; object = found.object })) same ∙ ap (λ o. option_map (λ (x : ObjectFile). record { stamp = stamp; object = x }) o) p),
-  λ q. ap (λ o. option_map (λ (k : KeptFile). k.object) o) (is ∙ q),
+-- what is kept with a stamp is the one thing that is kept with it
+pub found_with : (kept : Option KeptFile) (file : KeptFile) (stamp : FileStamp) → Some file ≡ kept → file.stamp ≡ stamp → (found : SplitFound ObjectFile) → (Some file.found ≡ Some found → kept ≡ Some (record { stamp = stamp; found = found })) × (kept ≡ Some (record { stamp = stamp; found = found }) → Some file.found ≡ Some found)
+found_with kept file stamp is same found = (
+  (λ p. sym is ∙ ap (λ s. Some (record { stamp = s; found = file.found })) same ∙ ap (λ o. option_map (λ (x : SplitFound ObjectFile). record { stamp = stamp; found = x }) o) p),
+  λ q. ap (λ o. option_map (λ (k : KeptFile). k.found) o) (is ∙ q),
 )
 
 -- a refused change of what is kept for a path is none
@@ -47,9 +52,89 @@ unchanged_at (Err e) bad path file old new same other = same other ∙ sym (by (
     by true d = ap (λ p. kept_at old p) (d.0 refl)
     by false d = refl
 
--- a file that is kept with a stamp is the only one
-pub kept_stamp : (kept : KeptFiles) (path : List ℕ) (stamp : FileStamp) (object : ObjectFile) → IsKeptAt kept path stamp object → (file : KeptFile) → kept_at kept path ≡ Some file → file.stamp ≡ stamp
-kept_stamp kept path stamp object at file is =
-    let e : Some file ≡ Some (record { stamp = stamp; object = object }) = sym is ∙ at in
-    let same : ◌≡◌ {A = KeptFile} file (record { stamp = stamp; object = object }) = cc in
+-- what is kept with a stamp is all that is kept for its path
+pub kept_stamp : (kept : KeptFiles) (path : List ℕ) (stamp : FileStamp) (found : SplitFound ObjectFile) → IsKeptAt kept path stamp found → (file : KeptFile) → kept_at kept path ≡ Some file → file.stamp ≡ stamp
+kept_stamp kept path stamp found at file is =
+    let e : Some file ≡ Some (record { stamp = stamp; found = found }) = sym is ∙ at in
+    let same : ◌≡◌ {A = KeptFile} file (record { stamp = stamp; found = found }) = cc in
     ap (λ (f : KeptFile). f.stamp) same
+
+-- a path is the same as itself, and as no other
+same_path : (path : List ℕ) → bytes_eq path path ≡ true
+same_path path = (bytes_eq-Decides path path).1 refl
+
+other_path : (path other : List ℕ) → other ≢ path → bytes_eq path other ≡ false
+other_path path other ne = by (bytes_eq path other) (bytes_eq-Decides path other)
+  where
+    by : (b : Bool) → Decides b (path ≡ other) → b ≡ false
+    by true d = absurd (ne (sym (d.0 refl)))
+    by false d = refl
+
+-- what a file has for a load, and the answer that it gives, are kept of it
+pub kept_answer : (compressed : CompressedSections) (load : SplitLoad) (found : SplitFound AnsweringFile)
+    → IfWanted found (λ f. Answers compressed load f.object f.sections.value) → HasOtherId load found
+    → HasAnswered compressed load (Ok (wanted_by (λ f. f.sections.value) found)) (found_as (λ f. f.object) found)
+kept_answer choice load (Wanted f) made other = (f.sections.value, refl, made)
+kept_answer choice load (Other id) made other = (refl, other)
+
+-- sections that a file has for a load are those of some file
+pub made_of_kept : {X : Type 0} (see : X → Sections) (compressed : CompressedSections) (load : SplitLoad) (found : SplitFound AnsweringFile) (sections : Option X)
+    → option_map see sections ≡ wanted_by (λ f. f.sections.value) found
+    → IfWanted found (λ f. Answers compressed load f.object f.sections.value) → IfSome sections (λ x. AreOfSomeFile compressed load (see x))
+made_of_kept see choice load found None is made = tt
+made_of_kept see choice load (Wanted f) (Some x) is made = let same : f.sections.value ≡ see x = cc in subst (AreOfSomeFile choice load) same (f.object, made)
+made_of_kept see choice load (Other id) (Some x) is made = absurd cc
+
+-- what was kept with the stamp stays
+pub keeps_as_before : (compressed : CompressedSections) (load : SplitLoad) (path : List ℕ) (stamp : FileStamp) (answer : Loading (Option Sections)) (kept : KeptFiles) (found : SplitFound ObjectFile)
+    → IsKeptAt kept path stamp found → KeepsStamped compressed load path stamp answer kept kept
+keeps_as_before compressed load path stamp answer kept found at = record {
+  after = record { others = λ other ne. refl; own = λ file is. inl is };
+  stamped = kept_stamp kept path stamp found at;
+}
+
+-- what was kept for a path was let go of
+module _ (compressed : CompressedSections) (load : SplitLoad) (path : List ℕ) (stamp : FileStamp) (answer : Loading (Option Sections)) (old mid : KeptFiles) (removed : ChangesAt path None old mid) where
+  gone : kept_at mid path ≡ None
+  gone = removed path ∙ ap (λ b. if b then None else kept_at old path) (same_path path)
+
+  stays : (other : List ℕ) → other ≢ path → kept_at mid other ≡ kept_at old other
+  stays other ne = removed other ∙ ap (λ b. if b then None else kept_at old other) (other_path path other ne)
+
+  -- and nothing else is kept
+  pub keeps_nothing : KeepsStamped compressed load path stamp answer old mid
+  keeps_nothing = record {
+    after = record { others = stays; own = λ file at. let no = sym gone ∙ at in absurd cc };
+    stamped = λ file at. let no = sym gone ∙ at in absurd cc;
+  }
+
+  -- and what gave the answer is kept, unless memory was refused for it
+  pub keeps_found : (found : SplitFound ObjectFile) → HasAnswered compressed load answer found → (new : KeptFiles) (is_put : Bool)
+      → ChangesAt path (if is_put then Some (record { stamp = stamp; found = found }) else kept_at mid path) mid new
+      → KeepsStamped compressed load path stamp answer old new
+  keeps_found found so new true put = record {
+    after = record {
+      others = λ other ne. put other ∙ ap (λ b. if b then Some kept else kept_at mid other) (other_path path other ne) ∙ stays other ne;
+      own = λ file at. inr (subst (λ (k : KeptFile). HasAnswered compressed load answer k.found) (is file at) so);
+    };
+    stamped = λ file at. ap (λ (k : KeptFile). k.stamp) (sym (is file at));
+  }
+    where
+      kept : KeptFile
+      kept = record { stamp = stamp; found = found }
+
+      is : (file : KeptFile) → kept_at new path ≡ Some file → kept ≡ file
+      is file at =
+          let e : Some kept ≡ Some file = sym (put path ∙ ap (λ b. if b then Some kept else kept_at mid path) (same_path path)) ∙ at in
+          let same : ◌≡◌ {A = KeptFile} kept file = cc in
+          same
+  keeps_found found so new false put = record {
+    after = record {
+      others = λ other ne. put other ∙ ap (λ b. if b then kept_at mid path else kept_at mid other) (other_path path other ne) ∙ stays other ne;
+      own = λ file at. let no = sym none ∙ at in absurd cc;
+    };
+    stamped = λ file at. let no = sym none ∙ at in absurd cc;
+  }
+    where
+      none : kept_at new path ≡ None
+      none = put path ∙ ap (λ b. if b then kept_at mid path else kept_at mid path) (same_path path) ∙ gone

@@ -1,7 +1,7 @@
--- Split files that are kept by their paths, and answers to loads by them.
--- Own: a file is kept with a stamp, at most one for each path, and only where it has answered a
--- load.
-use Rattle.std.specs.Prelude.{◌≡◌, ◌≢◌, ◌⊎◌, ℕ, IfErr, IfOk, IfSome, List, Option, None, Some, Ok, if◌then◌else◌, option_map}
+-- What is kept of split files by their paths, and answers to loads by it.
+-- Own: at most one file for each path, with a stamp. It is kept itself where it has answered a load,
+-- else the identifier of its first unit is, if it has one.
+use Rattle.std.specs.Prelude.{◌≡◌, ◌≢◌, ◌⊎◌, ℕ, false, IfErr, IfOk, IfSome, List, Option, None, Some, Ok, if◌then◌else◌, option_map}
 use Rattle.std.specs.BTreeMap.{get_by_text}
 use Rattle.std.specs.Str.{bytes_eq}
 use Rattle.elf.specs.declared.error.LoaderError.TheVariants.{OutOfMemory}
@@ -10,37 +10,43 @@ use Rattle.addr2line.specs.declared.compressed.CompressedSections.{CompressedSec
 use Rattle.addr2line.specs.declared.files.FileStamp.{FileStamp}
 use Rattle.addr2line.specs.declared.kept_files.KeptFile.{KeptFile}
 use Rattle.addr2line.specs.declared.kept_files.KeptFiles.{KeptFiles}
+use Rattle.addr2line.specs.declared.kept_files.SplitFound.{SplitFound}
+use Rattle.addr2line.specs.declared.kept_files.SplitFound.TheVariants.{Other, Wanted}
 use Rattle.addr2line.specs.FileSections.{split_section}
 use Rattle.addr2line.specs.Files.{Files}
-use Rattle.addr2line.specs.SplitFiles.{Answers, AreOfSomeFile, or_none, split_by, split_path}
+use Rattle.addr2line.specs.SplitFiles.{Answers, AreOfSomeFile, is_same_id, or_none, split_by, split_path}
+use Rattle.gimli.specs.declared.unit.DwoId.{DwoId}
 
--- the file that is kept for a path, with its stamp
+-- what is kept for a path, with its stamp
 abbrev pub kept_at : KeptFiles → List ℕ → Option KeptFile
 kept_at kept path = get_by_text kept.files path
 
--- this file is kept for a path with this stamp
-abbrev pub IsKeptAt : KeptFiles → List ℕ → FileStamp → ObjectFile → Type 0
-IsKeptAt kept path stamp object =
-    kept_at kept path ≡ Some (record { stamp = stamp; object = object })
+-- this is kept for a path with this stamp
+abbrev pub IsKeptAt : KeptFiles → List ℕ → FileStamp → SplitFound ObjectFile → Type 0
+IsKeptAt kept path stamp found =
+    kept_at kept path ≡ Some (record { stamp = stamp; found = found })
 
 -- this is kept for a path now, and for each other path what was kept before
 abbrev pub ChangesAt : List ℕ → Option KeptFile → KeptFiles → KeptFiles → Type 0
 ChangesAt path file old new = (other : List ℕ)
     → kept_at new other ≡ (if bytes_eq path other then file else kept_at old other)
 
--- a file gave the answer to a load, which has sections
-abbrev pub HasAnswered : CompressedSections → SplitLoad → Loading (Option Sections) → KeptFile
-    → Type 0
-HasAnswered compressed load answer file = (sections : Sections) × (answer ≡ Ok (Some sections))
-    × Answers compressed load file.object sections
+-- what is kept of a file gave the answer to a load: the file itself, which has sections for it; or
+-- the identifier, which isn't the load's, and the answer is none
+abbrev pub HasAnswered : CompressedSections → SplitLoad → Loading (Option Sections)
+    → SplitFound ObjectFile → Type 0
+HasAnswered choice load answer (Wanted object) = (sections : Sections)
+    × (answer ≡ Ok (Some sections)) × Answers choice load object sections
+HasAnswered choice load answer (Other id) =
+    (answer ≡ Ok None) × (is_same_id load.dwo_id id ≡ false)
 
--- after a load by the file at a path: for other paths the same is kept as before, and a file that
--- is kept for this one was kept before, or gave the answer
+-- after a load by the file at a path: for other paths the same is kept as before, and what is kept
+-- for this one was kept before, or gave the answer
 pub record KeepsAnswering (compressed : CompressedSections) (load : SplitLoad) (path : List ℕ)
     (answer : Loading (Option Sections)) (old new : KeptFiles) : Type 0 where
   pub others : (other : List ℕ) → other ≢ path → kept_at new other ≡ kept_at old other
   pub own : (file : KeptFile) → kept_at new path ≡ Some file
-      → (kept_at old path ≡ Some file) ⊎ HasAnswered compressed load answer file
+      → (kept_at old path ≡ Some file) ⊎ HasAnswered compressed load answer file.found
 
 -- the same of a load, by its own path; without one nothing changes
 abbrev pub KeepsAnswer : CompressedSections → SplitLoad → Loading (Option Sections) → KeptFiles
@@ -63,14 +69,17 @@ pub record KeepsByFiles (files : Option Files) (Keeps : KeptFiles → KeptFiles 
   pub after : Keeps old new
   pub kept : IfSome files (λ _. new ≡ old)
 
--- a load is answered by the file at a path with a stamp: where one is kept with the stamp, with
--- what it has for the load, none in place of a fault, unless memory is refused; in any case
--- sections are those of some file, and nothing but memory is refused
+-- a load is answered by the file at a path with a stamp: where it is kept with the stamp, with what
+-- it has for the load, none in place of a fault, unless memory is refused; where another identifier
+-- than the load's is kept with the stamp, with none; in any case sections are those of some file,
+-- and nothing but memory is refused
 pub record AnswersLoadStamped {X : Type 0} (see : X → Sections) (compressed : CompressedSections)
     (load : SplitLoad) (path : List ℕ) (stamp : FileStamp) (kept : KeptFiles)
     (result : Loading (Option X)) : Type 0 where
-  pub found : (object : ObjectFile) → IsKeptAt kept path stamp object
+  pub found : (object : ObjectFile) → IsKeptAt kept path stamp (Wanted object)
       → LoadsUnlessOom (option_map see) result
       (Ok (or_none (split_by (split_section compressed object) load)))
+  pub other : (id : Option DwoId) → IsKeptAt kept path stamp (Other id)
+      → is_same_id load.dwo_id id ≡ false → result ≡ Ok None
   pub made : IfOk result (λ found. IfSome found (λ x. AreOfSomeFile compressed load (see x)))
   pub refused : IfErr result (λ e. e ≡ OutOfMemory)

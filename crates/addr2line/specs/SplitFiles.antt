@@ -17,6 +17,8 @@ use Rattle.elf.specs.Symbols.{utf8_from}
 use Rattle.elf.specs.Text.{loader_error_of}
 use Rattle.addr2line_lines.specs.Paths.{lacks, slash}
 use Rattle.addr2line.specs.declared.compressed.CompressedSections.{CompressedSections}
+use Rattle.addr2line.specs.declared.kept_files.SplitFound.{SplitFound}
+use Rattle.addr2line.specs.declared.kept_files.SplitFound.TheVariants.{Other, Wanted}
 use Rattle.addr2line.specs.FileSections.{as_file, sections_by, split_section}
 use Rattle.addr2line.specs.Files.{ReadFiles}
 
@@ -52,10 +54,10 @@ abbrev pub is_same_id : DwoId → Option DwoId → Bool
 is_same_id wanted None = false
 is_same_id wanted (Some id) = id.0 == wanted.0
 
--- whether a unit is there and has the identifier that is wanted
-abbrev pub has_wanted_id : DwoId → Option UnitRecord → Bool
-has_wanted_id wanted None = false
-has_wanted_id wanted (Some u) = is_same_id wanted u.dwo_id
+-- the identifier of a unit, if there is one that has it
+abbrev pub id_of_unit : Option UnitRecord → Option DwoId
+id_of_unit None = None
+id_of_unit (Some u) = u.dwo_id
 
 -- the split sections of a load, by what each section is given as; none where they belong to another
 -- unit
@@ -63,14 +65,50 @@ unfoldable pub split_by : (SectionId → Loading Section) → SplitLoad → Load
 split_by given load = do
   ten ← sections_by given
   unit ← of_file (first_unit (as_file Dwo None ten))
-  Ok (if has_wanted_id load.dwo_id unit
+  Ok (if is_same_id load.dwo_id (id_of_unit unit)
       then Some (split_sections (as_file Dwo None ten) load.parent)
       else None)
 
--- the same of the bytes of a file
+-- the identifier of the first unit of a split file, if it has one
+unfoldable pub first_id_by : (SectionId → Loading Section) → Loading (Option DwoId)
+first_id_by given = do
+  ten ← sections_by given
+  unit ← of_file (first_unit (as_file Dwo None ten))
+  Ok (id_of_unit unit)
+
+-- both of the bytes of a file
 unfoldable pub split_of : CompressedSections → SplitLoad → List ℕ → Loading (Option Sections)
 split_of compressed load bytes =
     object_file_of bytes >>= λ file. split_by (split_section compressed file) load
+
+unfoldable pub first_id_of : CompressedSections → List ℕ → Loading (Option DwoId)
+first_id_of compressed bytes =
+    object_file_of bytes >>= λ file. first_id_by (split_section compressed file)
+
+-- what is wanted of a file, as it is seen; nothing where it has another identifier
+abbrev pub wanted_by : {T A : Type 0} → (T → A) → SplitFound T → Option A
+wanted_by see (Wanted x) = Some (see x)
+wanted_by see (Other id) = None
+
+-- what was found, with what is wanted of it as it is seen
+abbrev pub found_as : {T A : Type 0} → (T → A) → SplitFound T → SplitFound A
+found_as see (Wanted x) = Wanted (see x)
+found_as see (Other id) = Other id
+
+-- of what is wanted of a file this holds
+abbrev pub IfWanted : {T : Type 0} → SplitFound T → (T → Type 0) → Type 0
+IfWanted (Wanted x) So = So x
+IfWanted (Other id) So = Unit {0}
+
+-- an identifier that was found isn't that of the load, and is this
+abbrev pub IsOtherId : {T : Type 0} → SplitLoad → Loading (Option DwoId) → SplitFound T → Type 0
+IsOtherId load given (Wanted x) = Unit {0}
+IsOtherId load given (Other id) = (is_same_id load.dwo_id id ≡ false) × (given ≡ Ok id)
+
+-- the same, whichever it is
+abbrev pub HasOtherId : {T : Type 0} → SplitLoad → SplitFound T → Type 0
+HasOtherId load (Wanted x) = Unit {0}
+HasOtherId load (Other id) = is_same_id load.dwo_id id ≡ false
 
 -- a file answers a load with these sections
 abbrev pub Answers : CompressedSections → SplitLoad → ObjectFile → Sections → Type 0

@@ -128,7 +128,7 @@ pub(crate) fn context_of<R: Reader>(
 
 /// The debug information of an ELF file: a context of its sections, its symbols, and the files
 /// `F` that answer for its split files. A split file that has answered is kept by its path and its
-/// stamp.
+/// stamp, and of one that answered nothing its identifier, a few words.
 #[derive(Drop)]
 pub struct LoaderOver<F: FileSource> {
     alloc: Global,
@@ -305,8 +305,9 @@ impl<F: FileSource> LoaderOver<F> {
     /// `comp_dir`, a `/` unless that is empty or ends in one, and `path`. A load without a path, a
     /// file that isn't there, one whose first unit has another identifier or none, and a faulty one
     /// are answered none. An answer stays: a file counts that was there when its unit was first
-    /// asked for frames. A file that has answered another unit is read again only where its stamp
-    /// (`FileSource::stamp`) differs from the one that it had before it was read, or it has none.
+    /// asked for frames. A file that was read for another unit is read again only where its stamp
+    /// (`FileSource::stamp`) differs from the one that it had before it was read, it has none, or it
+    /// answered nothing and has the identifier of this unit.
     ///
     /// | Refusal | When |
     /// |---|---|

@@ -1,21 +1,22 @@
 //! The split files of units, which answer their loads.
 
-ghost use Rattle.std.specs.Prelude.{◌≡◌, IfErr, IfOk, IfSome, None, Ok, Option, Some, option_map};
+ghost use Rattle.std.specs.Prelude.{◌≡◌, ◌⊎◌, Err, IfErr, IfOk, IfSome, IsErr, None, Ok, Option, Some, option_and_then, option_map};
 ghost use Rattle.addr2line.specs.Common.{Exactly, result_map, Sections, PathNotUtf8, Loading, LoadsUnlessOom};
 ghost use Rattle.elf.specs.declared.error.LoaderError.TheVariants.{OutOfMemory};
 ghost use Rattle.elf.specs.FileImage.{image_bytes};
 ghost use Rattle.addr2line.specs.declared.compressed.CompressedSections.TheVariants.{Refused};
 ghost use Rattle.addr2line.specs.FileSections.{split_section};
 ghost use Rattle.addr2line.specs.Files.{as_read, as_read_if_known};
+ghost use Rattle.addr2line.specs.declared.kept_files.SplitFound.TheVariants.{Other};
 ghost use Rattle.addr2line.specs.KeptFiles.{AnswersLoadStamped, KeepsAnswer, KeepsAnswering, KeepsByFiles, KeepsStamped};
-ghost use Rattle.addr2line.specs.SplitFiles.{Answers, AnswersLoadBy, AnswersLoadByPath, bytes_or_none, has_wanted_id, is_absolute, is_same_id, or_none, path_in, separated, split_at_path, split_by, split_of, split_path, utf8_path};
+ghost use Rattle.addr2line.specs.SplitFiles.{Answers, AreOfSomeFile, AnswersLoadBy, AnswersLoadByPath, HasOtherId, IfWanted, IsOtherId, bytes_or_none, first_id_by, first_id_of, found_as, id_of_unit, is_absolute, is_same_id, or_none, path_in, separated, split_at_path, split_by, split_of, split_path, utf8_path, wanted_by};
 
 use crate::compressed::CompressedSections;
 use crate::file_sections::{
     OpenFile, SectionSource, SplitFile, as_dwarf, parse_bytes, parse_image, read_sections,
 };
 use crate::files::{FileSource, FileStamp};
-use crate::kept_files::KeptFiles;
+use crate::kept_files::{KeptFiles, SplitFound};
 use addr2line_units::unit::{SplitDwarfLoad, read_first_unit};
 use bytes::Bytes;
 use elf::{ElfFile, FileImage, LoaderError};
@@ -106,32 +107,34 @@ fn is_same(wanted: DwoId, id: Option<DwoId>) -> bool
     }
 }
 
-// Whether a unit has the identifier that is wanted.
-fn has_wanted<R: Reader>(wanted: DwoId, unit: &Option<Unit<R>>) -> bool
-    ensures gives { result ≡ has_wanted_id wanted unit.now }
+// The identifier of a unit, if there is one that has it.
+fn id_of<R: Reader>(unit: &Option<Unit<R>>) -> Option<DwoId>
+    ensures gives { result ≡ id_of_unit unit.now }
 {
     match unit {
-        Some(unit) => is_same(wanted, unit.dwo_id),
-        None => false,
+        Some(unit) => unit.dwo_id,
+        None => None,
     }
 }
 
-// The sections of a file as those of the split file of a load, none where they belong to another
-// unit.
+// The sections of a file as those of the split file of a load, or the identifier that they have
+// where they belong to another unit.
 fn read_split<R: Reader, S: SectionSource<R>>(
     alloc: Global,
     file: &S,
     load: &SplitDwarfLoad<R>,
-) -> Result<Option<Rc<Dwarf<R>>>, LoaderError>
-    ensures gives { LoadsUnlessOom (option_map (λ d. d.value)) result
+) -> Result<SplitFound<Rc<Dwarf<R>>>, LoaderError>
+    ensures gives { LoadsUnlessOom (wanted_by (λ d. d.value)) result
         (split_by (S.given file.now) load.now) }
+    ensures other { IfOk result (IsOtherId load.now (first_id_by (S.given file.now))) }
 {
     let mut dwarf = as_dwarf(read_sections(file)?, DwarfFileType::Dwo, None);
-    if !has_wanted(load.dwo_id, &read_first_unit(alloc, &dwarf)?) {
-        return Ok(None);
+    let id = id_of(&read_first_unit(alloc, &dwarf)?);
+    if !is_same(load.dwo_id, id) {
+        return Ok(SplitFound::Other(id));
     }
     dwarf.make_dwo(&load.parent)?;
-    Ok(Some(Rc::new(alloc, dwarf)?))
+    Ok(SplitFound::Wanted(Rc::new(alloc, dwarf)?))
 }
 
 // The sections of the split file of a load that an ELF file has, by what becomes of those that are
@@ -141,9 +144,11 @@ fn read_split_object(
     compressed: CompressedSections,
     load: &SplitDwarfLoad<EndianBytes>,
     object: &ElfFile,
-) -> Result<Option<Rc<Dwarf<EndianBytes>>>, LoaderError>
-    ensures gives { LoadsUnlessOom (option_map (λ d. d.value)) result
+) -> Result<SplitFound<Rc<Dwarf<EndianBytes>>>, LoaderError>
+    ensures gives { LoadsUnlessOom (wanted_by (λ d. d.value)) result
         (split_by (split_section compressed object.now) load.now) }
+    ensures other { IfOk result
+        (IsOtherId load.now (first_id_by (split_section compressed object.now))) }
 {
     let file = OpenFile {
         alloc,
@@ -160,24 +165,40 @@ struct AnsweringFile {
     sections: Rc<Dwarf<EndianBytes>>,
 }
 
-// The split file of a load that a file is of which pieces were read, none where it belongs to
-// another unit.
-#[tactic(auto, unfolding(crate::specs::SplitFiles::split_of))]
+// The split file of a load that a file is of which pieces were read, or its identifier where it
+// belongs to another unit.
+#[tactic(auto, unfolding(crate::specs::SplitFiles::split_of, crate::specs::SplitFiles::first_id_of))]
 fn read_split_file(
     alloc: Global,
     compressed: CompressedSections,
     load: &SplitDwarfLoad<EndianBytes>,
     file: FileImage,
-) -> Result<Option<AnsweringFile>, LoaderError>
-    ensures gives { LoadsUnlessOom (option_map (λ f. f.sections.value)) result
+) -> Result<SplitFound<AnsweringFile>, LoaderError>
+    ensures gives { LoadsUnlessOom (wanted_by (λ f. f.sections.value)) result
         (split_of compressed load.now (image_bytes file)) }
-    ensures made { IfOk result (λ found. IfSome found (λ f.
+    ensures made { IfOk result (λ found. IfWanted found (λ f.
         Answers compressed load.now f.object f.sections.value)) }
+    ensures other { IfOk result
+        (IsOtherId load.now (first_id_of compressed (image_bytes file))) }
 {
     let object = parse_image(alloc, file)?;
     match read_split_object(alloc, compressed, load, &object)? {
-        Some(sections) => Ok(Some(AnsweringFile { object, sections })),
-        None => Ok(None),
+        SplitFound::Wanted(sections) => Ok(SplitFound::Wanted(AnsweringFile { object, sections })),
+        SplitFound::Other(id) => Ok(SplitFound::Other(id)),
+    }
+}
+
+// What is wanted of what was found.
+fn wanted<T: Drop>(found: Result<SplitFound<T>, LoaderError>) -> Result<Option<T>, LoaderError>
+    ensures gives { (view : T → Sections) (given : Loading (Option Sections))
+        → LoadsUnlessOom (wanted_by view) found given
+        → LoadsUnlessOom (option_map view) result given }
+    ensures refused { IfErr result (λ e. found ≡ Err e) }
+{
+    match found {
+        Ok(SplitFound::Wanted(found)) => Ok(Some(found)),
+        Ok(SplitFound::Other(_)) => Ok(None),
+        Err(error) => Err(error),
     }
 }
 
@@ -211,48 +232,97 @@ pub fn read_split_sections_with(
         (split_of compressed load.now bytes) }
 {
     let object = parse_bytes(alloc, bytes)?;
-    read_split_object(alloc, compressed, load, &object)
+    wanted(read_split_object(alloc, compressed, load, &object))
 }
 
-// What was read, or none in place of a fault.
-fn without_fault<T: Drop>(found: Result<Option<T>, LoaderError>) -> Result<Option<T>, LoaderError>
+// What was found, or a file of no unit in place of a fault.
+fn without_fault<T: Drop>(
+    found: Result<SplitFound<T>, LoaderError>,
+) -> Result<SplitFound<T>, LoaderError>
     ensures gives { (view : T → Sections) (given : Loading (Option Sections))
-        → LoadsUnlessOom (option_map view) found given
-        → LoadsUnlessOom (option_map view) result (Ok (or_none given)) }
-    ensures found { IfOk result (λ read. IfSome read (λ x. found ≡ Ok (Some x))) }
+        → LoadsUnlessOom (wanted_by view) found given
+        → LoadsUnlessOom (wanted_by view) result (Ok (or_none given)) }
+    ensures found { IfOk result (λ read. (found ≡ Ok read) ⊎ (IsErr found × (read ≡ Other None))) }
     ensures refused { IfErr result (λ e. e ≡ OutOfMemory) }
 {
     match found {
         Ok(found) => Ok(found),
         Err(LoaderError::OutOfMemory) => Err(LoaderError::OutOfMemory),
-        Err(_) => Ok(None),
+        Err(_) => Ok(SplitFound::Other(None)),
     }
 }
 
-// The file at a path that answers a load, none where it gives no sections for it.
+// What the file at a path has for a load, nothing where no file can be read there.
 fn read_answering<F: FileSource>(
     alloc: Global,
     files: &F,
     compressed: CompressedSections,
     load: &SplitDwarfLoad<EndianBytes>,
     path: &str,
-) -> Result<Option<AnsweringFile>, LoaderError>
+) -> Result<Option<SplitFound<AnsweringFile>>, LoaderError>
     ensures gives { IfSome (F.files files.now) (λ held.
-        LoadsUnlessOom (option_map (λ f. f.sections.value)) result
+        LoadsUnlessOom (option_and_then (wanted_by (λ f. f.sections.value))) result
         (Ok (split_at_path (as_read compressed held) load.now path.now))) }
-    ensures made { IfOk result (λ found. IfSome found (λ f.
-        Answers compressed load.now f.object f.sections.value)) }
+    ensures made { IfOk result (λ read. IfSome read (λ found. IfWanted found (λ f.
+        Answers compressed load.now f.object f.sections.value))) }
+    ensures other { IfOk result (λ read. IfSome read (HasOtherId load.now)) }
     ensures refused { IfErr result (λ e. e ≡ OutOfMemory) }
 {
     match files.read_image(alloc, path)? {
-        Some(file) => without_fault(read_split_file(alloc, compressed, load, file)),
+        Some(file) => {
+            let found = read_split_file(alloc, compressed, load, file);
+            Ok(Some(without_fault(found)?))
+        }
         None => Ok(None),
     }
 }
 
-// The sections of the file at a path with a stamp for a load. Where a file is kept with this stamp
-// they are its sections. Else the file is read, and kept if it has them: what answers nothing isn't
-// held, since a file may name many.
+// What is kept of a file, and the sections that it answers a load with.
+fn as_kept(
+    found: SplitFound<AnsweringFile>,
+) -> (SplitFound<ElfFile>, Option<Rc<Dwarf<EndianBytes>>>)
+    ensures gives { result.0 ≡ found_as (λ f. f.object) found }
+    ensures sections { option_map (λ d. d.value) result.1 ≡ wanted_by (λ f. f.sections.value) found }
+{
+    match found {
+        SplitFound::Wanted(file) => (SplitFound::Wanted(file.object), Some(file.sections)),
+        SplitFound::Other(id) => (SplitFound::Other(id), None),
+    }
+}
+
+// The sections of the file at a path with a stamp for a load. The file is read, and kept in place of
+// what was kept for the path: itself if it has sections, so that of the files that a hostile unit
+// names only those are held that answer.
+fn read_stamped<F: FileSource>(
+    alloc: Global,
+    files: &F,
+    compressed: CompressedSections,
+    kept: &mut KeptFiles,
+    load: &SplitDwarfLoad<EndianBytes>,
+    path: &str,
+    stamp: FileStamp,
+) -> Result<Option<Rc<Dwarf<EndianBytes>>>, LoaderError>
+    ensures made { IfOk result (λ found. IfSome found (λ d.
+        AreOfSomeFile compressed load.now d.value)) }
+    ensures refused { IfErr result (λ e. e ≡ OutOfMemory) }
+    ensures after { KeepsStamped compressed load.now path.now stamp
+        (result_map (option_map (λ d. d.value)) result) kept.old kept.new }
+{
+    kept.remove(path);
+    let Some(found) = read_answering(alloc, files, compressed, load, path)? else {
+        return Ok(None);
+    };
+    let (found, sections) = as_kept(found);
+    // A refused growth is no refusal of the answer: nothing is kept then, and the file is read again.
+    match kept.put(path, stamp, found) {
+        Ok(()) => {}
+        Err(_) => {}
+    }
+    Ok(sections)
+}
+
+// The sections of the file at a path with a stamp for a load. Where it is kept with this stamp they
+// are its sections, and none where another identifier than the load's is kept. Else it is read.
 fn answer_stamped<F: FileSource>(
     alloc: Global,
     files: &F,
@@ -267,19 +337,19 @@ fn answer_stamped<F: FileSource>(
     ensures after { KeepsStamped compressed load.now path.now stamp
         (result_map (option_map (λ d. d.value)) result) kept.old kept.new }
 {
-    if let Some(object) = kept.find(path, stamp) {
-        return without_fault(read_split_object(alloc, compressed, load, object));
+    match kept.find(path, stamp) {
+        Some(SplitFound::Wanted(object)) => {
+            wanted(without_fault(read_split_object(alloc, compressed, load, object)))
+        }
+        Some(SplitFound::Other(id)) => {
+            if is_same(load.dwo_id, *id) {
+                read_stamped(alloc, files, compressed, kept, load, path, stamp)
+            } else {
+                Ok(None)
+            }
+        }
+        None => read_stamped(alloc, files, compressed, kept, load, path, stamp),
     }
-    kept.remove(path);
-    let Some(file) = read_answering(alloc, files, compressed, load, path)? else {
-        return Ok(None);
-    };
-    // A refused growth is no refusal of the answer: the file isn't kept then, and read again.
-    match kept.put(path, stamp, file.object) {
-        Ok(()) => {}
-        Err(_) => {}
-    }
-    Ok(Some(file.sections))
 }
 
 // The sections of the file at a path for a load, none where it has none.
@@ -303,8 +373,8 @@ fn answer_at<F: FileSource>(
         return answer_stamped(alloc, files, compressed, kept, load, path, stamp);
     }
     match read_answering(alloc, files, compressed, load, path)? {
-        Some(file) => Ok(Some(file.sections)),
-        None => Ok(None),
+        Some(SplitFound::Wanted(file)) => Ok(Some(file.sections)),
+        _ => Ok(None),
     }
 }
 

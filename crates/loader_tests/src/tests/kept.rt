@@ -15,6 +15,14 @@ const THREE_INFO: &[u8] = b"\x2a\0\0\0\x05\0\x04\x08\0\0\0\0\x88\x77\x66\x55\x44
     \x2a\0\0\0\x05\0\x04\x08\0\0\0\0\x88\x77\x66\x55\x44\x33\x22\x11\
     \x01\0\0\0\0/w\0s.dwo\0\x50\0\0\0\0\0\0\0\x20\0\0\0";
 
+// The same three, of which the second has another identifier.
+const MIXED_INFO: &[u8] = b"\x2a\0\0\0\x05\0\x04\x08\0\0\0\0\x88\x77\x66\x55\x44\x33\x22\x11\
+    \x01\0\0\0\0/w\0s.dwo\0\x10\0\0\0\0\0\0\0\x20\0\0\0\
+    \x2a\0\0\0\x05\0\x04\x08\0\0\0\0\x89\x77\x66\x55\x44\x33\x22\x11\
+    \x01\0\0\0\0/w\0s.dwo\0\x30\0\0\0\0\0\0\0\x20\0\0\0\
+    \x2a\0\0\0\x05\0\x04\x08\0\0\0\0\x88\x77\x66\x55\x44\x33\x22\x11\
+    \x01\0\0\0\0/w\0s.dwo\0\x50\0\0\0\0\0\0\0\x20\0\0\0";
+
 // The split unit with "h" [0x10, 0x70), and with "i" in its place.
 const H_INFO: &[u8] = b"\x23\0\0\0\x05\0\x05\x08\0\0\0\0\x88\x77\x66\x55\x44\x33\x22\x11\
     \x01\x1c\0\x02h\0\x10\0\0\0\0\0\0\0\x60\0\0\0\0";
@@ -22,9 +30,15 @@ const H_INFO: &[u8] = b"\x23\0\0\0\x05\0\x05\x08\0\0\0\0\x88\x77\x66\x55\x44\x33
 const I_INFO: &[u8] = b"\x23\0\0\0\x05\0\x05\x08\0\0\0\0\x88\x77\x66\x55\x44\x33\x22\x11\
     \x01\x1c\0\x02i\0\x10\0\0\0\0\0\0\0\x60\0\0\0\0";
 
+// The same with "i" and the other identifier.
+const OTHER_INFO: &[u8] = b"\x23\0\0\0\x05\0\x05\x08\0\0\0\0\x89\x77\x66\x55\x44\x33\x22\x11\
+    \x01\x1c\0\x02i\0\x10\0\0\0\0\0\0\0\x60\0\0\0\0";
+
 const HAS_H: Split = Split::Unit(H_INFO);
 
 const HAS_I: Split = Split::Unit(I_INFO);
+
+const OTHER: Split = Split::Unit(OTHER_INFO);
 
 // One that has another identifier, and one without a byte, which answer nothing.
 const FOREIGN: Split = Split::Unit(FOREIGN_INFO);
@@ -136,12 +150,12 @@ fn told_in<F: PutFiles>(alloc: Global, files: Result<F, AllocError>, steps: [Ste
 }
 
 // The same of three units whose split file is one, read whole and by parts.
-fn told(alloc: Global, steps: [Step; 3]) -> [[u64; 3]; 2] {
+fn told(alloc: Global, info: &[u8], steps: [Step; 3]) -> [[u64; 3]; 2] {
     [
-        told_in(alloc, split_files(alloc, THREE_INFO, SPLIT, None), steps),
+        told_in(alloc, split_files(alloc, info, SPLIT, None), steps),
         told_in(
             alloc,
-            by_parts(split_files(alloc, THREE_INFO, SPLIT, None)),
+            by_parts(split_files(alloc, info, SPLIT, None)),
             steps,
         ),
     ]
@@ -162,12 +176,32 @@ fn a_split_file_is_read_once_for_a_stamp(rt: HostRuntime) {
         ([(HAS_H, None), (HAS_I, None), (EMPTY, None)], [H, I, 0]),
         ([(HAS_H, None), (HAS_I, one), (EMPTY, one)], [H, I, I]),
         ([(HAS_H, one), (HAS_I, None), (EMPTY, one)], [H, I, H]),
-        // A file that answers nothing isn't kept.
-        ([(FOREIGN, one), (HAS_H, one), (HAS_I, one)], [0, H, H]),
-        ([(EMPTY, one), (HAS_H, one), (HAS_I, one)], [0, H, H]),
+        // That a file answers nothing is known as long as the stamp is the same.
+        ([(FOREIGN, one), (HAS_H, one), (HAS_I, one)], [0, 0, 0]),
+        ([(EMPTY, one), (HAS_H, one), (HAS_I, one)], [0, 0, 0]),
+        ([(FOREIGN, one), (HAS_H, two), (HAS_I, two)], [0, H, H]),
+        ([(EMPTY, one), (HAS_H, two), (EMPTY, two)], [0, H, H]),
     ];
     for (steps, want) in cases {
-        assert_eq!(rt; told(rt.alloc(), steps), [want; 2]);
+        assert_eq!(rt; told(rt.alloc(), THREE_INFO, steps), [want; 2]);
+    }
+}
+
+#[test]
+fn a_file_of_another_unit_is_read_for_that_unit(rt: HostRuntime) {
+    let one = Some(STAMP);
+    let two = Some(other_at(0));
+    let cases = [
+        // The unit that it is of reads it once more, and it is kept then.
+        ([(OTHER, one), (OTHER, one), (HAS_H, one)], [0, I, 0]),
+        ([(OTHER, one), (EMPTY, one), (HAS_H, one)], [0, 0, 0]),
+        ([(OTHER, one), (HAS_H, one), (HAS_H, one)], [0, 0, H]),
+        // Of a file that is refused nobody is.
+        ([(EMPTY, one), (OTHER, one), (HAS_H, one)], [0, 0, 0]),
+        ([(EMPTY, one), (OTHER, two), (HAS_H, one)], [0, I, H]),
+    ];
+    for (steps, want) in cases {
+        assert_eq!(rt; told(rt.alloc(), MIXED_INFO, steps), [want; 2]);
     }
 }
 
@@ -176,6 +210,6 @@ fn each_part_of_a_stamp_counts(rt: HostRuntime) {
     for place in 0..7 {
         let other = Some(other_at(place));
         let steps = [(HAS_H, Some(STAMP)), (HAS_I, other), (EMPTY, other)];
-        assert_eq!(rt; told(rt.alloc(), steps), [[H, I, I]; 2]);
+        assert_eq!(rt; told(rt.alloc(), THREE_INFO, steps), [[H, I, I]; 2]);
     }
 }

@@ -1,6 +1,6 @@
 -- Names and their texts, computed.
 use Rattle.std.proofs.Common.{refl}
-use Rattle.itanium.specs.Worked.{WorkedEntities, WorkedTypes, WorkedSubstitutions, WorkedSpecialNames, WorkedFaults, WorkedNames}
+use Rattle.itanium.specs.Worked.{WorkedEntities, WorkedTypes, WorkedSubstitutions, WorkedSpecialNames, WorkedLimits, WorkedFaults, WorkedNames}
 use Rattle.itanium.proofs.Computing.{itanium}
 
 worked_entities : WorkedEntities
@@ -82,6 +82,15 @@ worked_special_names = record {
   clones = refl;
 }
 
+worked_limits : WorkedLimits
+unfolding itanium
+worked_limits = record {
+  deepest_type = refl;
+  type_too_deep = refl;
+  deepest_name = refl;
+  name_too_deep = refl;
+}
+
 worked_faults : WorkedFaults
 unfolding itanium
 worked_faults = record {
@@ -109,5 +118,6 @@ worked_names = record {
   types = worked_types;
   substitutions = worked_substitutions;
   special_names = worked_special_names;
+  limits = worked_limits;
   faults = worked_faults;
 }

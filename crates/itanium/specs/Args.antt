@@ -6,7 +6,7 @@ use Rattle.std.specs.Prelude.{ℕ, ◌==◌, Bool, true, false, List, [], ◌∷
 use Rattle.std.specs.List.{list_any}
 use Rattle.itanium.specs.Tree.{Text, Tree, Trees, trees, word, phrase, cast, string}
 use Rattle.itanium.specs.Tables.{literal_types}
-use Rattle.itanium.specs.Reading.{Reading, Inner, ◌>>=◌, ◌>>◌, give, fault, need, closed, by_table, one_of, if_at, if_first, all_up_to, enter_argument, no_arguments}
+use Rattle.itanium.specs.Reading.{Reading, Inner, ◌>>=◌, ◌>>◌, give, fault, need, up_to_end, by_table, one_of, if_at, if_first, all_up_to, enter_argument, no_arguments}
 use Rattle.itanium.specs.Identifiers.{number}
 
 -- ---- literals
@@ -14,7 +14,7 @@ use Rattle.itanium.specs.Identifiers.{number}
 -- the number of a literal of a builtin type, with what stands before it and behind it
 unfoldable pub builtin_literal : Text × Text → Reading Tree
 builtin_literal around = do
-  text ← closed number
+  text ← up_to_end number
   give (phrase (around.0 ++ text ++ around.1))
 
 -- truth values, and the null pointer
@@ -33,27 +33,27 @@ module _ (inner : Inner) where
   unfoldable pub typed_literal : Reading Tree
   typed_literal = do
     type ← inner.type
-    text ← closed number
+    text ← up_to_end number
     give (cast type text)
 
   -- a string literal, of which only the type is there
   unfoldable pub string_literal : Reading Tree
   string_literal = do
-    type ← closed inner.type
+    type ← up_to_end inner.type
     give (string type)
 
   -- <expr-primary>, behind its `L`
   unfoldable pub literal : Reading Tree
   literal = by_table literal_types builtin_literal
       (one_of constants
-      (one_of ((codes "_Z", closed inner.encoding) ∷ [])
+      (one_of ((codes "_Z", up_to_end inner.encoding) ∷ [])
       (if_at (codes "A") string_literal
       (if_first is_other_literal fault typed_literal))))
 
   -- <template-arg>
   unfoldable pub argument_rule : Reading Tree
   argument_rule =
-      one_of ((codes "LZ", closed inner.encoding) ∷ (codes "L", literal) ∷ []) inner.type
+      one_of ((codes "LZ", up_to_end inner.encoding) ∷ (codes "L", literal) ∷ []) inner.type
 
 -- ---- arguments
 

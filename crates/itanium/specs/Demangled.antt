@@ -2,8 +2,8 @@
 -- Source: Itanium C++ ABI, 5.1.2: a name is `_Z` and an encoding. What compilers add: a second `_`
 -- before that, a dot before it on PowerPC, and a suffix that begins with a dot.
 -- Own: a name with any fault has no text; 1,000,000 bytes of text at most. Rust's legacy names have
--- none, though they are C++ names by the grammar: nested names whose last identifier is `h` and 16
--- hexadecimal digits. Nor have blocks in this stage.
+-- none, though they are C++ names by the grammar: what begins with `N` and ends, but for a suffix, in
+-- `17h`, 16 hexadecimal digits and `E`. Nor have blocks in this stage.
 use Rattle.std.specs.Prelude.{ℕ, ◌==◌, ◌&&◌, ◌||◌, Bool, true, false, List, [], ◌∷◌, ◌++◌, length, take, drop, nat_le, if◌then◌else◌, Option, Some, None, is_some, option_map, option_and_then, codes}
 use Rattle.std.specs.Char.{is_ascii_hexdigit}
 use Rattle.std.specs.List.{list_all}
@@ -50,12 +50,13 @@ ends_in_digits bytes =
     list_all is_ascii_hexdigit (take hash_digits bytes) && ends_name (drop hash_digits bytes)
 
 -- whether a hash is the last identifier of a name: first in these bytes, or anywhere in them
-abbrev pub is_hash : List ℕ → Bool
-is_hash bytes = elim (after (codes "17h") bytes) [ None ↦ false | Some rest ↦ ends_in_digits rest ]
+abbrev pub ends_in_hash : List ℕ → Bool
+ends_in_hash bytes = elim (after (codes "17h") bytes)
+    [ None ↦ false | Some rest ↦ ends_in_digits rest ]
 
 unfoldable pub has_hash : List ℕ → Bool
 has_hash [] = false
-has_hash (b ∷ bytes) = is_hash (b ∷ bytes) || has_hash bytes
+has_hash (b ∷ bytes) = ends_in_hash (b ∷ bytes) || has_hash bytes
 
 -- whether what follows the prefix is a legacy name of Rust
 unfoldable pub is_rust_legacy : List ℕ → Bool

@@ -79,12 +79,12 @@ module _ (inner : Inner) where
 -- ---- functions
 
 -- whether the bytes end, or with them the encoding
-abbrev pub is_end : List ℕ → Bool
-is_end [] = true
-is_end (b ∷ bytes) = b == byte "E" || b == byte "." || b == byte "_"
+abbrev pub ends_encoding : List ℕ → Bool
+ends_encoding [] = true
+ends_encoding (b ∷ bytes) = b == byte "E" || b == byte "." || b == byte "_"
 
 abbrev pub at_end : Reading Bool
-at_end = λ s. Some (is_end s.bytes, s)
+at_end = λ s. Some (ends_encoding s.bytes, s)
 
 -- whether a function shows its result: its name ends in template arguments, and isn't that of a
 -- constructor, a destructor or a conversion

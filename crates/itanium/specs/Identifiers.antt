@@ -23,16 +23,16 @@ abbrev pub is_seq_digit : ℕ → Bool
 is_seq_digit c = is_ascii_digit c || is_ascii_uppercase c
 
 -- decimal digits, one at least
-unfoldable pub digits : Reading Text
-digits = do
+unfoldable pub decimal_digits : Reading Text
+decimal_digits = do
   text ← leading is_ascii_digit
   if length text == 0 then fault else give text
 
 -- <number>, as it is shown: an `n` before its digits is a minus
 unfoldable pub number : Reading Text
 number = if_next (codes "n") (do
-  text ← digits
-  give (codes "-" ++ text)) digits
+  text ← decimal_digits
+  give (codes "-" ++ text)) decimal_digits
 
 -- a number of at most 64 bits
 abbrev pub fits : ℕ → Reading ℕ
@@ -41,7 +41,7 @@ fits n = if nat_lt n (2 ^ 64) then give n else fault
 -- the length of an identifier
 unfoldable pub name_length : Reading ℕ
 name_length = do
-  text ← digits
+  text ← decimal_digits
   fits (digits_value decimal_base text)
 
 -- the digits before a `_`: none is 0, and any other number one more than it says

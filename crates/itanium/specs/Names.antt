@@ -1,11 +1,11 @@
 -- The names of entities: nested, unscoped and local ones.
--- Source: Itanium C++ ABI, 5.1.2 (<name>, <unscoped-name>, <nested-name>, <prefix>), and of 5.1 Scope
--- Encoding (<local-name>) and Compression (which prefixes are components).
+-- Source: Itanium C++ ABI, 5.1.2 (<name>, <unscoped-name>, <nested-name>, <prefix>), and of 5.1
+-- Scope Encoding (<local-name>) and Compression (which prefixes are components).
 -- Own: `std` or a substitution alone is no nested name.
 use Rattle.std.specs.Prelude.{ℕ, zero, suc, ◌||◌, Bool, true, false, [], ◌∷◌, ◌++◌, length, if◌then◌else◌, Option, Some, None, codes}
 use Rattle.std.specs.Char.{is_ascii_digit}
 use Rattle.itanium.specs.Tree.{Tree, word, local, is_template}
-use Rattle.itanium.specs.Reading.{Reading, Entity, Inner, ◌>>=◌, ◌>>◌, give, fault, need, leading, closed, one_of, if_next, if_at, optional, enter, apart, entity_of}
+use Rattle.itanium.specs.Reading.{Reading, Entity, Inner, ◌>>=◌, ◌>>◌, give, fault, need, leading, up_to_end, one_of, if_next, if_at, optional, enter, apart, entity_of}
 use Rattle.itanium.specs.Identifiers.{discriminator}
 use Rattle.itanium.specs.Substitutions.{substitution, template_param}
 use Rattle.itanium.specs.Unqualified.{cv_qualifiers, ref_qualifier, unqualified_name, with_arguments}
@@ -127,7 +127,7 @@ module _ (inner : Inner) where
   -- <local-name>, behind its `Z`
   unfoldable pub local_name : Bool → Reading Entity
   local_name is_own = do
-    around ← closed inner.encoding
+    around ← up_to_end inner.encoding
     name ← one_of ((codes "s", local_string) ∷ (codes "d", default_argument is_own) ∷ [])
         (local_entity is_own)
     give (record name { tree = local around name.tree })

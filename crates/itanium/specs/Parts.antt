@@ -1,4 +1,4 @@
--- What is shown of a name or a type: the text left of a type's declarator, and the text right of it.
+-- What is shown of a name or a type: the text left of a type's declarator, and that right of it.
 -- Own: all of it. The text is that of llvm-cxxfilt.
 use Rattle.std.specs.Prelude.{Bool, true, false, List, [], ◌∷◌, ◌++◌, nat_eq, if◌then◌else◌, codes}
 use Rattle.std.specs.List.{ends_with}
@@ -11,17 +11,17 @@ pub data Kind : Type 0 where
   a_function : Kind
 
 -- what a type is as a reference
-pub data Reference : Type 0 where
-  no_reference : Reference
-  lvalue : Reference
-  rvalue : Reference
+pub data ReferenceKind : Type 0 where
+  no_reference : ReferenceKind
+  lvalue : ReferenceKind
+  rvalue : ReferenceKind
 
 -- what is shown of a tree; of a reference all but its sign is that of the type that it refers to
 pub record Parts : Type 0 where
   pub before : Text  -- left of the declarator
   pub behind : Bool → Text  -- right of it, where the text before ends in `]` or doesn't
   pub kind : Kind
-  pub reference : Reference
+  pub reference : ReferenceKind
   pub has_right : Bool  -- whether a function or an array is in it, through pointers too
   pub base : Text  -- what its constructors are named
 
@@ -50,16 +50,16 @@ closing an_array = codes ")"
 closing a_function = codes ")"
 
 -- what kind a type is: a reference is neither
-abbrev pub kind_under : Reference → Kind → Kind
+abbrev pub kind_under : ReferenceKind → Kind → Kind
 kind_under no_reference kind = kind
 kind_under lvalue kind = neither
 kind_under rvalue kind = neither
 
-abbrev pub kind_of : Parts → Kind
-kind_of p = kind_under p.reference p.kind
+abbrev pub shown_kind : Parts → Kind
+shown_kind p = kind_under p.reference p.kind
 
 -- the sign of a reference, in its bracket
-abbrev pub sign_of : Reference → Kind → Text
+abbrev pub sign_of : ReferenceKind → Kind → Text
 sign_of no_reference kind = []
 sign_of lvalue kind = opening kind ++ codes "&"
 sign_of rvalue kind = opening kind ++ codes "&&"
@@ -69,7 +69,7 @@ abbrev pub left : Parts → Text
 left p = p.before ++ sign_of p.reference p.kind
 
 -- right of it, behind the bracket of a reference
-abbrev pub right_under : Reference → Kind → (Bool → Text) → Bool → Text
+abbrev pub right_under : ReferenceKind → Kind → (Bool → Text) → Bool → Text
 right_under no_reference kind behind is_bracketed = behind is_bracketed
 right_under lvalue kind behind is_bracketed = closing kind ++ behind false
 right_under rvalue kind behind is_bracketed = closing kind ++ behind false
@@ -99,8 +99,8 @@ abbrev pub nested_parts : Parts → Parts → Parts
 nested_parts scope name =
     record (plain (whole scope ++ codes "::" ++ whole name)) { base = name.base }
 
-abbrev pub tagged_parts : Parts → Text → Parts
-tagged_parts name tag =
+abbrev pub abi_tagged_parts : Parts → Text → Parts
+abi_tagged_parts name tag =
     record (plain (left name ++ codes "[abi:" ++ tag ++ codes "]")) { base = name.base }
 
 abbrev pub template_parts : Parts → List Parts → Parts
@@ -119,7 +119,7 @@ abbrev pub qualified_parts : Parts → Text → Parts
 qualified_parts type qualifiers = record {
   before = left type ++ qualifiers;
   behind = right type;
-  kind = kind_of type;
+  kind = shown_kind type;
   reference = no_reference;
   has_right = type.has_right;
   base = [];
@@ -129,7 +129,7 @@ qualified_parts type qualifiers = record {
 abbrev pub pointing_parts : Text → Parts → Parts
 pointing_parts sign type = record {
   before = left type ++ sign;
-  behind = λ is_bracketed. closing (kind_of type) ++ right type false;
+  behind = λ is_bracketed. closing (shown_kind type) ++ right type false;
   kind = neither;
   reference = no_reference;
   has_right = type.has_right;
@@ -137,7 +137,7 @@ pointing_parts sign type = record {
 }
 
 abbrev pub pointer_parts : Parts → Parts
-pointer_parts type = pointing_parts (opening (kind_of type) ++ codes "*") type
+pointer_parts type = pointing_parts (opening (shown_kind type) ++ codes "*") type
 
 -- before the class of a member stands a bracket or a space
 abbrev pub member_opening : Kind → Text
@@ -147,17 +147,17 @@ member_opening a_function = codes "("
 
 abbrev pub member_parts : Parts → Parts → Parts
 member_parts class member =
-    pointing_parts (member_opening (kind_of member) ++ whole class ++ codes "::*") member
+    pointing_parts (member_opening (shown_kind member) ++ whole class ++ codes "::*") member
 
 -- a reference to a reference is one to its type, and an rvalue reference only if both are
-abbrev pub collapse : Reference → Reference → Reference
+abbrev pub collapse : ReferenceKind → ReferenceKind → ReferenceKind
 collapse no_reference to = to
 collapse lvalue to = lvalue
 collapse rvalue no_reference = rvalue
 collapse rvalue lvalue = lvalue
 collapse rvalue rvalue = rvalue
 
-abbrev pub reference_parts : Reference → Parts → Parts
+abbrev pub reference_parts : ReferenceKind → Parts → Parts
 reference_parts reference type =
     record type { reference = collapse reference type.reference; base = [] }
 

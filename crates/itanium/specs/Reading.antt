@@ -47,10 +47,10 @@ after_byte test [] = None
 after_byte test (b ∷ bytes) = if test b then Some bytes else None
 
 -- the entry of a table whose code stands first, and what follows the code
-unfoldable pub entry_at : {A : Type 0} → List (Text × A) → List ℕ → Option (A × List ℕ)
-entry_at [] bytes = None
-entry_at (entry ∷ table) bytes = elim (after entry.0 bytes)
-    [ None ↦ entry_at table bytes | Some rest ↦ Some (entry.1, rest) ]
+unfoldable pub table_entry_at : {A : Type 0} → List (Text × A) → List ℕ → Option (A × List ℕ)
+table_entry_at [] bytes = None
+table_entry_at (entry ∷ table) bytes = elim (after entry.0 bytes)
+    [ None ↦ table_entry_at table bytes | Some rest ↦ Some (entry.1, rest) ]
 
 -- what has to stand here: a text, or a byte that passes a test
 abbrev pub passed : Option (List ℕ) → Reading (Unit {0})
@@ -75,8 +75,8 @@ leading test = λ s.
     Some (take n s.bytes, record s { bytes = drop n s.bytes })
 
 -- a reading, and `E` after it
-abbrev pub closed : {A : Type 0} → Reading A → Reading A
-closed reading = do
+abbrev pub up_to_end : {A : Type 0} → Reading A → Reading A
+up_to_end reading = do
   x ← reading
   need (codes "E")
   give x
@@ -85,7 +85,7 @@ closed reading = do
 
 -- by the entry of a table whose code stands first, and else another reading
 abbrev pub by_table : {A B : Type 0} → List (Text × A) → (A → Reading B) → Reading B → Reading B
-by_table table found other = λ s. elim (entry_at table s.bytes)
+by_table table found other = λ s. elim (table_entry_at table s.bytes)
     [ None ↦ other s | Some p ↦ found p.0 (record s { bytes = p.1 }) ]
 
 -- the reading after the first of these texts that stands here, and else another

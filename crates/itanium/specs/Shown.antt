@@ -3,7 +3,7 @@
 -- that of llvm-cxxfilt.
 use Rattle.std.specs.Prelude.{List, [], ◌∷◌, ◌++◌, codes}
 use Rattle.itanium.specs.Tree.{Text, Tree, Trees, word, phrase, abbreviated, spelled_out, nested, local, tagged, template, constructor, destructor, conversion, function, resulting, special, construction_vtable, qualified, pointer, lvalue_reference, rvalue_reference, member_pointer, array, function_type, marked, vector, cast, string, no_trees, with_tree}
-use Rattle.itanium.specs.Parts.{Parts, lvalue, rvalue, plain, left, whole, nested_parts, tagged_parts, template_parts, construction_parts, qualified_parts, pointer_parts, member_parts, reference_parts, array_parts, called_parts, resulting_parts, function_type_parts}
+use Rattle.itanium.specs.Parts.{Parts, lvalue, rvalue, plain, left, whole, nested_parts, abi_tagged_parts, template_parts, construction_parts, qualified_parts, pointer_parts, member_parts, reference_parts, array_parts, called_parts, resulting_parts, function_type_parts}
 
 -- what is shown of a tree, and of several
 unfoldable mutual
@@ -15,7 +15,7 @@ unfoldable mutual
       record (plain (codes "std::" ++ class.class ++ class.arguments)) { base = class.class }
   parts (nested scope name) = nested_parts (parts scope) (parts name)
   parts (local around name) = plain (whole (parts around) ++ codes "::" ++ whole (parts name))
-  parts (tagged name tag) = tagged_parts (parts name) tag
+  parts (tagged name tag) = abi_tagged_parts (parts name) tag
   parts (template name arguments) = template_parts (parts name) (parts_of_all arguments)
   parts (constructor class) = plain (parts class).base
   parts (destructor class) = plain (codes "~" ++ (parts class).base)

@@ -96,11 +96,11 @@ ends_in_arguments (local around name) = ends_in_arguments name
 ends_in_arguments _ = false
 
 -- a class as it stands before its constructors and destructors
-abbrev pub class_of : Tree → Tree
-class_of (abbreviated class) = spelled_out class
-class_of tree = tree
+abbrev pub as_class : Tree → Tree
+as_class (abbreviated class) = spelled_out class
+as_class tree = tree
 
 -- a name in a scope, if it has one
-abbrev pub in_scope : Option Tree → Tree → Tree
-in_scope None name = name
-in_scope (Some scope) name = nested scope name
+abbrev pub scoped : Option Tree → Tree → Tree
+scoped None name = name
+scoped (Some scope) name = nested scope name

@@ -1,4 +1,4 @@
--- Unqualified names: identifiers, operators, constructors, destructors, conversions; and qualifiers.
+-- Unqualified names: identifiers, operators, constructors, destructors, conversions. Qualifiers.
 -- Source: Itanium C++ ABI, 5.1.2 (<unqualified-name>, <CV-qualifiers>, <ref-qualifier>), 5.1.3
 -- (<operator-name>) and 5.1.4 (<ctor-dtor-name>).
 -- Own: structured bindings, closures, types without a name, modules and friends are faults in this
@@ -9,7 +9,7 @@ use Rattle.std.specs.Char.{is_ascii_digit}
 use Rattle.std.specs.Int.{is_in_range}
 use Rattle.std.specs.List.{list_any}
 use Rattle.std.specs.Str.{byte}
-use Rattle.itanium.specs.Tree.{Text, Tree, word, phrase, template, constructor, destructor, conversion, class_of, in_scope}
+use Rattle.itanium.specs.Tree.{Text, Tree, word, phrase, template, constructor, destructor, conversion, as_class, scoped}
 use Rattle.itanium.specs.Tables.{operators, ref_qualifiers}
 use Rattle.itanium.specs.Reading.{Reading, Entity, Inner, ◌>>=◌, ◌>>◌, give, fault, need_byte, by_table, one_of, if_next, if_first, optional, inside_conversion}
 use Rattle.itanium.specs.Identifiers.{source_name, tagged_name}
@@ -48,8 +48,8 @@ base_of scope name = record { scope = scope; name = name; has_no_result = false 
 -- a constructor or destructor of a class
 abbrev pub structor_of : (Tree → Tree) → Tree → Base
 structor_of make scope = record {
-  scope = Some (class_of scope);
-  name = make (class_of scope);
+  scope = Some (as_class scope);
+  name = make (as_class scope);
   has_no_result = true;
 }
 
@@ -131,7 +131,7 @@ module _ (inner : Inner) where
     base ← base_name is_own scope
     name ← tagged_name base.name
     give (record {
-      tree = in_scope base.scope name;
+      tree = scoped base.scope name;
       has_no_result = base.has_no_result;
       qualifiers = [];
     })

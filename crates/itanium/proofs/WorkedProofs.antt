@@ -87,8 +87,6 @@ unfolding itanium
 worked_limits = record {
   deepest_type = refl;
   type_too_deep = refl;
-  deepest_name = refl;
-  name_too_deep = refl;
 }
 
 worked_faults : WorkedFaults

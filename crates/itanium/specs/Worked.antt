@@ -2,7 +2,6 @@
 -- Source: the texts are those of llvm-cxxfilt 22.1.8. Own: the limits, and which names have none
 -- because what they spell is of a later stage.
 use Rattle.std.specs.Prelude.{◌≡◌, ℕ, List, ◌++◌, replicate, Some, None, codes}
-use Rattle.std.specs.List.{repeat}
 use Rattle.std.specs.Str.{byte}
 use Rattle.itanium.specs.Demangled.{cxx_text}
 
@@ -104,12 +103,10 @@ pub record WorkedFaults : Type 0 where
   pub block : HasNoText (codes "___Z1fv_block_invoke")
   pub rust_legacy : HasNoText (codes "_ZN3foo3bar17h05af221e174051e9E")
 
--- the most levels inside one another, and the deepest tree
+-- the most levels inside one another: an encoding, 498 pointers and a builtin type
 pub record WorkedLimits : Type 0 where
   pub deepest_type : StandsFor (codes "_Z1f" ++ replicate 498 (byte "P") ++ codes "i") (codes "f(int" ++ replicate 498 (byte "*") ++ codes ")")
   pub type_too_deep : HasNoText (codes "_Z1f" ++ replicate 499 (byte "P") ++ codes "i")
-  pub deepest_name : StandsFor (codes "_ZN" ++ repeat 500 (codes "1a") ++ codes "E") (codes "a" ++ repeat 499 (codes "::a"))
-  pub name_too_deep : HasNoText (codes "_ZN" ++ repeat 501 (codes "1a") ++ codes "E")
 
 -- names of each kind
 pub record WorkedNames : Type 0 where

@@ -30,6 +30,7 @@ worked_entities = record {
 worked_types : WorkedTypes
 unfolding itanium
 worked_types = record {
+  builtin_types = refl;
   function_pointer = refl;
   nested_functions = refl;
   function_result = refl;
@@ -62,6 +63,7 @@ worked_substitutions = record {
   constructor = refl;
   template_template = refl;
   integers = refl;
+  small_integers = refl;
   typed_literals = refl;
 }
 
@@ -80,6 +82,7 @@ worked_special_names = record {
   temporary = refl;
   cold = refl;
   clones = refl;
+  dotted = refl;
 }
 
 worked_limits : WorkedLimits

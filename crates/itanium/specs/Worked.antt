@@ -37,6 +37,7 @@ pub record WorkedEntities : Type 0 where
 
 -- types of parameters and results
 pub record WorkedTypes : Type 0 where
+  pub builtin_types : StandsFor (codes "_Z1fDnDuDsDiDaDcDhDfDdDe") (codes "f(std::nullptr_t, char8_t, char16_t, char32_t, auto, decltype(auto), half, decimal32, decimal64, decimal128)")
   pub function_pointer : StandsFor (codes "_Z1fPFivE") (codes "f(int (*)())")
   pub nested_functions : StandsFor (codes "_Z1fPFPFicEdE") (codes "f(int (* (*)(double))(char))")
   pub function_result : StandsFor (codes "_Z3retIiEPFicET_") (codes "int (*ret<int>(int))(char)")
@@ -67,9 +68,10 @@ pub record WorkedSubstitutions : Type 0 where
   pub constructor : StandsFor (codes "_ZNSt7__cxx1112basic_stringIcSt11char_traitsIcESaIcEEC1EPKcRKS3_") (codes "std::__cxx11::basic_string<char, std::char_traits<char>, std::allocator<char>>::basic_string(char const*, std::allocator<char> const&)")
   pub template_template : StandsFor (codes "_Z1fI1AiEvT_IT0_E") (codes "void f<A, int>(A<int>)")
   pub integers : StandsFor (codes "_Z1fILi3ELin5ELj7ELl1ELm2ELx3ELy4EEvv") (codes "void f<3, -5, 7u, 1l, 2ul, 3ll, 4ull>()")
+  pub small_integers : StandsFor (codes "_Z1fILc97ELb1ELs3ELw5ELa6ELh7ELt8ELn9ELo1EEvv") (codes "void f<(char)97, true, (short)3, (wchar_t)5, (signed char)6, (unsigned char)7, (unsigned short)8, (__int128)9, (unsigned __int128)1>()")
   pub typed_literals : StandsFor (codes "_Z1fIL1E3ELN1a1FEn2ELDnELPv0EEvv") (codes "void f<(E)3, (a::F)-2, nullptr, (void*)0>()")
 
--- special names, and suffixes
+-- special names, suffixes, and a dot before the prefix
 pub record WorkedSpecialNames : Type 0 where
   pub vtable : StandsFor (codes "_ZTV1S") (codes "vtable for S")
   pub vtt : StandsFor (codes "_ZTTSt9strstream") (codes "VTT for std::strstream")
@@ -83,6 +85,7 @@ pub record WorkedSpecialNames : Type 0 where
   pub temporary : StandsFor (codes "_ZGRN1a1rE0_") (codes "reference temporary for a::r")
   pub cold : StandsFor (codes "_Z1fv.cold") (codes "f() (.cold)")
   pub clones : StandsFor (codes "_ZL1fi.isra.0.cold") (codes "f(int) (.isra.0.cold)")
+  pub dotted : StandsFor (codes "._Z1fv") (codes ".f()")
 
 -- names that have no text
 pub record WorkedFaults : Type 0 where

@@ -1,5 +1,5 @@
 -- Template arguments: types, literals, and the encodings of functions and objects.
--- Source: Itanium C++ ABI, 5.1.5 (<template-args>) and 5.1.6 (<expr-primary>).
+-- Source: Itanium C++ ABI, 5.1.5 (<template-args>), and of 5.1 Expressions (<expr-primary>).
 -- Own: packs, expressions and declarations are faults in this stage, and so are literals of
 -- floating point types and of closures.
 use Rattle.std.specs.Prelude.{ℕ, ◌==◌, Bool, true, false, List, [], ◌∷◌, ◌++◌, codes}

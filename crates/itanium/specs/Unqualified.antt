@@ -1,6 +1,6 @@
 -- Unqualified names: identifiers, operators, constructors, destructors, conversions. Qualifiers.
--- Source: Itanium C++ ABI, 5.1.2 (<unqualified-name>, <CV-qualifiers>, <ref-qualifier>), 5.1.3
--- (<operator-name>) and 5.1.4 (<ctor-dtor-name>).
+-- Source: Itanium C++ ABI, 5.1.2 (<unqualified-name>), 5.1.3 (<operator-name>), 5.1.4
+-- (<ctor-dtor-name>) and 5.1.5 (<CV-qualifiers>, <ref-qualifier>).
 -- Own: structured bindings, closures, types without a name, modules and friends are faults in this
 -- stage. A constructor is named by the last identifier of its class, without ABI tags. The entity
 -- that an inherited constructor names is read, and tells nothing.

@@ -3,7 +3,7 @@
 -- the version has four bytes, and some sections have other numbers.
 -- Own: a version that is neither 5 nor, in the GNU form, 2 is UnknownVersion.
 -- Own: a number of slots that is neither 0 nor a power of two, or less than that of the units, is
--- OffsetOutOfBounds: the slots lead not to every row.
+-- OffsetOutOfBounds: a search might not come to each slot, or no slot could lead to some row.
 -- Own: a header or a table that isn't wholly in the index is UnexpectedEof.
 use Rattle.std.specs.Prelude.{ℕ, ◌+◌, ◌*◌, ◌==◌, ◌&&◌, ◌||◌, not, nat_lt, nat_le, Bool, List, length, map, drop, Result, Ok, Err, if◌then◌else◌}
 use Rattle.std.specs.Int.{is_power_of_two}

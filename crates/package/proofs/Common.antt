@@ -5,7 +5,7 @@ pub use Rattle.std.proofs.lemmas.Bool.Decides.{nat_tests}
 pub use Rattle.std.proofs.lemmas.List.FromFn.{get_or-map-range_with_len, length-map-range_with_len}
 pub use Rattle.std.specs.List.{find, position, range_with_len}
 pub use Rattle.package.specs.Common.{Error, OffsetOutOfBounds, Section, after, first}
-pub use Rattle.package.specs.Index.{Index, columns_place, numbers_from, offsets_place, rows_from, rows_place, sizes_place, tables_end}
+pub use Rattle.package.specs.Index.{Index, columns_place, numbers_from, offsets_place, number_rows_from, rows_place, sizes_place, tables_end}
 unfoldable pub use Rattle.package.specs.Index.{index_by_header, number_from}
 pub use Rattle.package.specs.Parts.{cell_of, part_by_number}
 pub use Rattle.package.specs.Search.{ends_at, probes, row_in_slot, row_number, row_by_id, step_of}

@@ -1,5 +1,5 @@
 -- The tables of an index, by the places where their numbers stand (on specs/Index.antt).
-use Rattle.package.proofs.Common.{◌≡◌, ◌∙◌, ℕ, ◌+◌, ◌*◌, ◌<◌, List, [], length, ap, sym, arith, slice_index, get_or-map-range_with_len, length-map-range_with_len, Section, Index, IndexHeader, INDEX_HEADER_SIZE, columns_place, index_by_header, number_from, numbers_from, offsets_place, rows_from, rows_place, sizes_place, cell_of}
+use Rattle.package.proofs.Common.{◌≡◌, ◌∙◌, ℕ, ◌+◌, ◌*◌, ◌<◌, List, [], length, ap, sym, arith, slice_index, get_or-map-range_with_len, length-map-range_with_len, Section, Index, IndexHeader, INDEX_HEADER_SIZE, columns_place, index_by_header, number_from, numbers_from, offsets_place, number_rows_from, rows_place, sizes_place, cell_of}
 
 -- a table has as many numbers as it is to have
 numbers-length : (width count place : ℕ) (s : Section) → length (numbers_from width count place s) ≡ count
@@ -10,10 +10,10 @@ number_of_table : (width count place n : ℕ) (s : Section) → n < count → sl
 number_of_table width count place n s l = get_or-map-range_with_len (λ (k : ℕ). number_from width (place + width * k) s) 0 count n n 0 l (omega arith)
 
 -- the same of a table of rows
-rows-length : (rows columns place : ℕ) (s : Section) → length (rows_from rows columns place s) ≡ rows
+rows-length : (rows columns place : ℕ) (s : Section) → length (number_rows_from rows columns place s) ≡ rows
 rows-length rows columns place s = length-map-range_with_len (λ (row : ℕ). numbers_from 4 columns (place + 4 * (row * columns)) s) 0 rows
 
-cell_of_table : (rows columns place row column : ℕ) (s : Section) → row < rows → column < columns → cell_of (rows_from rows columns place s) row column ≡ number_from 4 (place + 4 * (row * columns) + 4 * column) s
+cell_of_table : (rows columns place row column : ℕ) (s : Section) → row < rows → column < columns → cell_of (number_rows_from rows columns place s) row column ≡ number_from 4 (place + 4 * (row * columns) + 4 * column) s
 cell_of_table rows columns place row column s l k =
     ap (λ (numbers : List ℕ). slice_index numbers column) (get_or-map-range_with_len (λ (n : ℕ). numbers_from 4 columns (place + 4 * (n * columns)) s) 0 rows row row [] l (omega arith))
     ∙ number_of_table 4 columns (place + 4 * (row * columns)) column s k
@@ -24,7 +24,7 @@ pub record HasTable (see : Index → List ℕ) (x : Index) (width count place : 
 
 -- the same of rows of numbers
 pub record HasRows (see : Index → List (List ℕ)) (x : Index) (rows columns place : ℕ) (s : Section) : Type 0 where
-  pub is : see x ≡ rows_from rows columns place s
+  pub is : see x ≡ number_rows_from rows columns place s
 
 pub table-length : {see : Index → List ℕ} {x : Index} {width count place : ℕ} {s : Section} → HasTable see x width count place s → length (see x) ≡ count
 table-length {see} {x} {width} {count} {place} {s} t = ap length t.is ∙ numbers-length width count place s

@@ -89,8 +89,8 @@ numbers_from width count place s =
     map (λ n. number_from width (place + width * n) s) (range_with_len 0 count)
 
 -- so many rows of numbers of four bytes for so many columns, one after another from a place on
-abbrev pub rows_from : ℕ → ℕ → ℕ → Section → List (List ℕ)
-rows_from rows columns place s =
+abbrev pub number_rows_from : ℕ → ℕ → ℕ → Section → List (List ℕ)
+number_rows_from rows columns place s =
     map (λ row. numbers_from 4 columns (place + 4 * (row * columns)) s) (range_with_len 0 rows)
 
 -- the tables that a header announces, one after another
@@ -100,8 +100,8 @@ index_by_header h s = record {
   ids = numbers_from 8 h.slot_count INDEX_HEADER_SIZE s;
   rows = numbers_from 4 h.slot_count (rows_place h) s;
   columns = numbers_from 4 h.section_count (columns_place h) s;
-  offsets = rows_from h.unit_count h.section_count (offsets_place h) s;
-  sizes = rows_from h.unit_count h.section_count (sizes_place h) s;
+  offsets = number_rows_from h.unit_count h.section_count (offsets_place h) s;
+  sizes = number_rows_from h.unit_count h.section_count (sizes_place h) s;
 }
 
 -- the index in a section, which may go on after it

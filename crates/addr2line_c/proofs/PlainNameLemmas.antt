@@ -1,5 +1,5 @@
 -- Names that take no memory (on specs/PlainNames.antt).
-use Rattle.addr2line_c.proofs.Common.{◌≡◌, ◌++◌, ◌∷◌, ℕ, List, [], Option, Some, None, Result, Ok, Err, option_map, sym, subst, Error, ExactlyUnlessOom, frames_left}
+use Rattle.addr2line_c.proofs.Common.{◌≡◌, ◌++◌, ◌∷◌, ℕ, List, [], Some, None, Result, Ok, Err, option_map, sym, subst, Error, ExactlyUnlessOom, frames_left}
 use Rattle.std.specs.Prelude.{IfOk, IsOk}
 use Rattle.std.specs.List.{AllByRecursion}
 use Rattle.rust_v0.specs.Name.{without_llvm, without_prefix}

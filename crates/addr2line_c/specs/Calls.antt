@@ -1,6 +1,6 @@
 -- What the calls of an open file answer, write and leave, and what C gets of them by a handle.
 -- Own: a handle that isn't open answers so, and stays as it is, and nothing is written.
-use Rattle.std.specs.Prelude.{◌≡◌, ◌≢◌, ◌⊎◌, ◌==◌, ◌∷◌, ℕ, Bool, true, false, List, [], length, nat_le, Option, Some, None, Ok, Err, IfErr, if◌then◌else◌}
+use Rattle.std.specs.Prelude.{◌≡◌, ◌≢◌, ◌⊎◌, ◌==◌, ◌∷◌, ℕ, true, List, [], length, nat_le, Option, Some, None, Ok, Err, IfErr, if◌then◌else◌}
 use Rattle.elf.specs.declared.error.LoaderError.{LoaderError}
 use Rattle.addr2line.specs.declared.names.Style.{Style}
 use Rattle.addr2line_c.specs.Common.{OutOfMemory, location_of, IsReady, IsReadyForAll, IsReadyForRange, of_file}

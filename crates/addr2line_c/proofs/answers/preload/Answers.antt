@@ -1,4 +1,4 @@
-use Rattle.addr2line_c.proofs.Common.{rules, ◌≡◌, ◌≢◌, ◌∙◌, []}
+use Rattle.addr2line_c.proofs.Common.{rules, ◌≢◌, ◌∙◌, []}
 use Rattle.addr2line.specs.Lookups.{loads_at}
 use Rattle.addr2line_c.proofs.LoadCallLemmas.{none_wanted}
 use Rattle.addr2line_c.proofs.NoneOpenLemmas.{no_loads}

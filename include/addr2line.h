@@ -220,7 +220,8 @@ addr2line_status addr2line_find_location(addr2line_handle *handle, uint64_t addr
                                          addr2line_location *location, char *text, size_t text_size,
                                          size_t *needed);
 
-/* Names as they stand in the source, for Rust before its version 0 of mangling; takes memory for each. */
+/* Names as they stand in the source, for Rust before its version 0 of mangling; takes memory for a name that
+ * is mangled or isn't UTF-8. */
 #define ADDR2LINE_DEMANGLE 1u
 /* The same, and names of that version too. */
 #define ADDR2LINE_DEMANGLE_RUST 2u
@@ -249,11 +250,11 @@ addr2line_status addr2line_get_load(addr2line_handle *handle, addr2line_load *lo
                                     char *text, size_t text_size, size_t *needed);
 
 /*
- * Answers a load by the ELF file that bytes are, and by none where size is 0: then the unit is looked
- * up without its split file. The first answer of a unit counts: a later one changes nothing, whatever
- * its status. A file that is refused, and one of another unit (ADDR2LINE_OTHER_UNIT), is answered none
- * too, and the status says why. A fault of the unit in the file is told too; lookups have it until the
- * answer is forgotten.
+ * Answers a load by the ELF file that bytes are, and by none where size is 0, which takes no memory:
+ * then the unit is looked up without its split file. The first answer of a unit counts: a later one
+ * changes nothing, whatever its status. A file that is refused, and one of another unit
+ * (ADDR2LINE_OTHER_UNIT), is answered none too, and the status says why. A fault of the unit in the
+ * file is told too; lookups have it until the answer is forgotten.
  *
  * Refused ADDR2LINE_UNKNOWN_TOKEN where there is no such load; ADDR2LINE_OUT_OF_MEMORY leaves it
  * waiting.
@@ -268,7 +269,7 @@ addr2line_status addr2line_forget(addr2line_handle *handle, uint64_t token);
 
 /*
  * Asks for the split files of an address before a lookup does: ADDR2LINE_WAITS where there are some, which
- * addr2line_get_load tells one by one.
+ * addr2line_get_load tells one by one. Takes memory only where a unit at the address waits for its split file.
  */
 addr2line_status addr2line_preload(addr2line_handle *handle, uint64_t address);
 

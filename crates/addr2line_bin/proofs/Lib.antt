@@ -1,6 +1,7 @@
 pub mod Common
 pub mod Parts
 pub mod Runs
+pub mod CallLemmas
 pub mod Addresses
 pub mod Words
 pub mod CommandLemmas

@@ -1,15 +1,16 @@
 -- The lines of an input.
 -- Own: a line ends at a line feed, and a carriage return before it is cut; a line that isn't UTF-8
--- ends the input, and so does a read that fails, unless memory was refused for it, or the number of
--- lines that 64 bits hold.
-use Rattle.std.specs.Prelude.{◌≡◌, ◌≢◌, ◌⊎◌, ◌<◌, ◌+◌, ◌-◌, ◌^◌, ℕ, Bool, true, false, List, [], ◌∷◌, length, map, Option, Some, IfSome, IsSomeAnd}
+-- ends the input, and so does the number of lines that 64 bits hold, and a read that fails, unless
+-- its fault is of the kind OutOfMemory, as that of a refused growth is.
+use Rattle.std.specs.Prelude.{◌≡◌, ◌≢◌, ◌⊎◌, ◌<◌, ◌+◌, ◌-◌, ◌^◌, ℕ, zero, suc, Bool, true, false, List, [], ◌∷◌, length, map, Option, Some, IfSome, IsSomeAnd, Result, Ok, Err, if◌then◌else◌}
 use Rattle.std.specs.declared.io.ErrorKind.{ErrorKind}
 use Rattle.std.specs.declared.io.ErrorKind.TheVariants.{OutOfMemory}
-use Rattle.std.specs.Io.BufRead.{drop_through, first_line}
+use Rattle.std.specs.Io.BufRead.{drop_through, ends_with_byte, first_line, strip_last}
 use Rattle.std.specs.Io.{StopsAt}
 use Rattle.std.specs.Io.KnownBytes.{Consumes, IsAtEnd}
 use Rattle.std.specs.Str.{IsUtf8, byte}
 use Rattle.addr2line_bin.specs.Address.{address_in}
+use Rattle.addr2line_bin.specs.Calls.{ReadCall, ReadTo}
 use Rattle.addr2line_bin.specs.Put.{plus}
 
 -- an input: the bytes that are left and how often a line was asked for, where these are known, and
@@ -19,7 +20,34 @@ pub record InputState : Type 0 where
   pub reads : Option ℕ
   pub fault : Option ErrorKind
 
--- a fault of a read that counts as the end of the input: any but a refused growth
+-- a line without its end: a line feed, and a carriage return before it
+abbrev pub cut_line : List ℕ → List ℕ
+cut_line line = if ends_with_byte (byte "\n") line
+    then strip_last (byte "\r") (strip_last (byte "\n") line) else line
+
+-- whether there is a line, by the answer of the read; or its fault
+abbrev pub line_answer : Result ℕ ErrorKind → Result Bool ErrorKind
+line_answer (Ok zero) = Ok false
+line_answer (Ok (suc n)) = Ok true
+line_answer (Err kind) = Err kind
+
+-- the line of the bytes that a read took: without its end, unless the read failed
+abbrev pub line_of_taken : Result ℕ ErrorKind → List ℕ → List ℕ
+line_of_taken (Ok zero) taken = taken
+line_of_taken (Ok (suc n)) taken = cut_line taken
+line_of_taken (Err kind) taken = taken
+
+-- the calls are one read up to a line feed, which gave this answer and this line
+pub record ReadsBy (result : Result Bool ErrorKind) (line : List ℕ) (calls : List ReadCall)
+    : Type 0 where
+  pub taken : List ℕ
+  pub answer : Result ℕ ErrorKind
+  pub reads : calls ≡ ReadTo (byte "\n") taken answer ∷ []
+  pub gives : result ≡ line_answer answer
+  pub left : line ≡ line_of_taken answer taken
+
+-- a fault of a read that counts as the end of the input: any but one of the kind that a refused
+-- growth has
 abbrev pub EndsInput : Option ErrorKind → Type 0
 EndsInput fault = IsSomeAnd fault (λ kind. kind ≢ OutOfMemory)
 

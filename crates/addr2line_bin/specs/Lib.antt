@@ -1,4 +1,6 @@
 pub mod Common
+pub mod Calls
+pub mod Gave
 pub mod Put
 pub mod Address
 pub mod AddressTexts

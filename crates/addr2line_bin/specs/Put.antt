@@ -1,11 +1,12 @@
 -- What goes to a stream that may fail: its bytes, where they are known, grow by a text, or by a
 -- beginning of it where it fails.
--- Own: after a failed write to standard error nothing more goes there.
-use Rattle.std.specs.Prelude.{◌≡◌, ◌+◌, ℕ, Bool, true, false, List, ◌++◌, Option, Some, is_some, option_map, Result, Ok, Err}
+-- Own: a write that fails, is interrupted or takes no byte isn't tried again; after a failed write
+-- to standard error nothing more goes there.
+use Rattle.std.specs.Prelude.{◌≡◌, ◌+◌, ℕ, zero, suc, Bool, true, false, List, [], ◌∷◌, ◌++◌, drop, Option, Some, is_some, option_map, Result, Ok, Err}
 use Rattle.std.specs.declared.io.ErrorKind.{ErrorKind}
-use Rattle.std.specs.declared.io.Error.{Error}
-use Rattle.std.specs.IoError.{error_kind}
+use Rattle.std.specs.declared.io.ErrorKind.TheVariants.{WriteZero}
 use Rattle.std.specs.Io.KnownBytes.{Appends, Keeps}
+use Rattle.addr2line_bin.specs.Calls.{Flushed, SinkCall, Wrote}
 
 -- a stream: its bytes and how often it was flushed, where these are known, whether all of them are
 -- flushed, its last fault, and whether its last call had that
@@ -20,10 +21,22 @@ pub record StreamState : Type 0 where
 abbrev pub has_fault : StreamState → Bool
 has_fault s = is_some s.fault
 
--- the same answer, with its fault's kind
-abbrev pub with_kind : Result (Unit {0}) Error → Result (Unit {0}) ErrorKind
-with_kind (Ok x) = Ok x
-with_kind (Err e) = Err (error_kind e)
+-- the calls write the text, each from where the one before it stopped, until all is written, or one
+-- fails or takes no byte; the answer is that of the last one. For no byte there is no call
+abbrev pub PutsBy : List ℕ → Result (Unit {0}) ErrorKind → List SinkCall → Type 0
+PutsBy [] result calls = (calls ≡ []) × (result ≡ Ok tt)
+PutsBy (b ∷ rest) result [] = ⊥
+PutsBy (b ∷ rest) result (Wrote bytes (Ok zero) ∷ calls) =
+    (bytes ≡ b ∷ rest) × (calls ≡ []) × (result ≡ Err WriteZero)
+PutsBy (b ∷ rest) result (Wrote bytes (Ok (suc n)) ∷ calls) =
+    (bytes ≡ b ∷ rest) × PutsBy (drop (suc n) (b ∷ rest)) result calls
+PutsBy (b ∷ rest) result (Wrote bytes (Err kind) ∷ calls) =
+    (bytes ≡ b ∷ rest) × (calls ≡ []) × (result ≡ Err kind)
+PutsBy (b ∷ rest) result (Flushed answer ∷ calls) = ⊥
+
+-- the calls are one flush, and the answer is its own
+abbrev pub FlushesBy : Result (Unit {0}) ErrorKind → List SinkCall → Type 0
+FlushesBy result calls = calls ≡ Flushed result ∷ []
 
 -- the last fault, after a call with this answer
 abbrev pub last_fault_after : {A : Type 0} → Option ErrorKind → Result A ErrorKind

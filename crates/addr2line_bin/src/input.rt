@@ -1,14 +1,16 @@
 //! Inputs that lines are read from.
 
-ghost use Rattle.std.specs.Prelude.{◌≡◌, IfOk, None, OnErr, Some, if◌then◌else◌};
+ghost use Rattle.std.specs.Prelude.{◌≡◌, IfOk, None, OnErr, Some};
 ghost use Rattle.std.specs.declared.io.ErrorKind.TheVariants.{OutOfMemory};
 ghost use Rattle.std.specs.Io.BufRead.{ends_with_byte, strip_last};
-ghost use Rattle.std.specs.Str.{byte};
-ghost use Rattle.addr2line_bin.specs.InputLines.{ReadsLine, TakesPart};
-ghost use Rattle.addr2line_bin.specs.Put.{plus};
+ghost use Rattle.addr2line_bin.specs.Calls.{Made};
+ghost use Rattle.addr2line_bin.specs.InputLines.{ReadsBy, ReadsLine, TakesLine, TakesPart};
+ghost use Rattle.addr2line_bin.specs.InputLines.{cut_line};
+ghost use Rattle.addr2line_bin.specs.Put.{last_fault_after, plus};
 
+use crate::calls::LineSource;
 use std::alloc::AllocError;
-use std::io::{BufRead, ErrorKind};
+use std::io::ErrorKind;
 
 /// An input that lines are read from.
 pub trait Input {
@@ -45,14 +47,14 @@ pub fn next_line<I: Input>(input: &mut I, line: &mut Vec<u8>) -> Result<bool, Al
     }
 }
 
-/// A reader as an input. How often it is asked isn't known.
+/// A source of lines as an input. How often it is asked isn't known.
 #[derive(Drop)]
-pub struct ReaderInput<R: BufRead> {
+pub struct ReaderInput<R: LineSource> {
     reader: R,
     fault: Option<ErrorKind>,
 }
 
-impl<R: BufRead> ReaderInput<R> {
+impl<R: LineSource> ReaderInput<R> {
     /// An input no read of which has failed.
     pub fn new(reader: R) -> ReaderInput<R>
         ensures gives { result ≡ record { reader = reader; fault = None } }
@@ -82,27 +84,33 @@ fn cut_last(bytes: &mut Vec<u8>, byte: u8) -> bool
 
 // Cuts a line feed at the end, and a carriage return before it.
 fn cut_line_end(line: &mut Vec<u8>)
-    ensures gives { line.new.items ≡ (if ends_with_byte (byte "\n") line.old.items
-        then strip_last (byte "\r") (strip_last (byte "\n") line.old.items) else line.old.items) }
+    ensures gives { line.new.items ≡ cut_line line.old.items }
 {
     if cut_last(line, b'\n') {
         cut_last(line, b'\r');
     }
 }
 
-impl<R: BufRead> Input for ReaderInput<R> {
+impl<R: LineSource> Input for ReaderInput<R> {
     ghost state = { λ s. record { bytes = R.remaining s.reader; reads = None; fault = s.fault } };
 
-    fn read_line(&mut self, line: &mut Vec<u8>) -> Result<bool, ErrorKind> {
+    fn read_line(&mut self, line: &mut Vec<u8>) -> Result<bool, ErrorKind>
+        ensures by_calls { Made R.gives self.old.reader self.new.reader
+            (ReadsBy result line.new.items) }
+        ensures gives { IfOk result (λ is_read. TakesLine is_read
+            (R.remaining self.old.reader) (R.remaining self.new.reader) line.new.items) }
+        ensures refused { OnErr result
+            (TakesPart (R.remaining self.old.reader) (R.remaining self.new.reader)) }
+        ensures fault { self.new.fault ≡ last_fault_after self.old.fault result }
+    {
         line.clear();
-        match self.reader.read_until(b'\n', line) {
+        match self.reader.read_to(b'\n', line) {
             Ok(0) => Ok(false),
             Ok(_) => {
                 cut_line_end(line);
                 Ok(true)
             }
-            Err(error) => {
-                let kind = error.kind();
+            Err(kind) => {
                 self.fault = Some(kind);
                 Err(kind)
             }

@@ -4,10 +4,12 @@
 mod address;
 mod address_text;
 mod all_addresses;
+mod calls;
 mod command;
 mod command_line;
 mod exit;
 mod frame_text;
+mod handed;
 mod input;
 mod json_text;
 mod lookups;
@@ -24,6 +26,7 @@ mod version;
 mod whole_run;
 mod word_answers;
 
+use crate::handed::Handed;
 use crate::input::ReaderInput;
 use crate::stream::Written;
 use crate::whole_run::run_program;
@@ -45,10 +48,10 @@ fn main(rt: HostRuntime) -> ExitCode {
     let alloc: Global = rt.alloc();
     let words = words_of(&rt);
     let input = match BufReader::new(alloc, rt.reader()) {
-        Ok(reader) => Ok(ReaderInput::new(reader)),
+        Ok(reader) => Ok(ReaderInput::new(Handed(reader))),
         Err(_) => Err(AllocError),
     };
-    let mut out = Written::new(rt.stdout());
-    let mut err = Written::new(rt.stderr());
+    let mut out = Written::new(Handed(rt.stdout()));
+    let mut err = Written::new(Handed(rt.stderr()));
     run_program(alloc, HostFiles::new(rt), words, input, &mut out, &mut err)
 }

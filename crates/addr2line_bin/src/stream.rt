@@ -1,14 +1,16 @@
 //! Texts to streams that may fail.
 
 ghost use Rattle.std.specs.Prelude.{◌≡◌, ◌++◌, OnOk, IfErr, MatchResult, None, false, is_err, true};
-ghost use Rattle.std.specs.Io.KnownBytes.{Appends};
-ghost use Rattle.addr2line_bin.specs.Put.{WritesPrefix, Reports, last_fault_after, with_kind, plus};
+ghost use Rattle.std.specs.Io.KnownBytes.{Appends, Keeps};
+ghost use Rattle.addr2line_bin.specs.Calls.{Made};
+ghost use Rattle.addr2line_bin.specs.Put.{FlushesBy, PutsBy, Reports, WritesPrefix};
+ghost use Rattle.addr2line_bin.specs.Put.{last_fault_after, plus};
 ghost use Rattle.addr2line_bin.specs.Stopped.{IsFault, reason_of};
 ghost use Rattle.addr2line_bin.specs.declared.stream.StopReason.TheVariants as stop;
 
+use crate::calls::Sink;
 use std::alloc::AllocError;
-use std::io;
-use std::io::{ErrorKind, Write};
+use std::io::ErrorKind;
 
 /// Why the program stops before the last address.
 pub enum StopReason {
@@ -41,7 +43,7 @@ impl From<ErrorKind> for StopReason {
 
 /// A stream that texts go to.
 pub trait Stream {
-    ghost use Rattle.std.specs.Prelude.{◌≡◌, MatchResult, OnOk, is_err, true};
+    ghost use Rattle.std.specs.Prelude.{◌≡◌, MatchResult, OnOk, false, is_err, true};
     ghost use Rattle.std.specs.Io.KnownBytes.{Appends, Keeps};
     ghost use Rattle.addr2line_bin.specs.Put.{StreamState, WritesPrefix, last_fault_after};
     ghost use Rattle.addr2line_bin.specs.Put.{flushes_after, has_fault};
@@ -53,12 +55,13 @@ pub trait Stream {
     fn has_failed(&self) -> bool
         ensures gives { result ≡ has_fault (state self.now) };
 
-    /// Writes the bytes, or a beginning of them before a fault.
+    /// Writes the bytes, or a beginning of them before a fault. Nothing is flushed by that.
     fn put(&mut self, bytes: &[u8]) -> Result<(), ErrorKind>
         ensures gives { MatchResult result
             (λ _. Appends (state self.old).contents (state self.new).contents bytes.now)
             (λ _. WritesPrefix (state self.old).contents (state self.new).contents bytes.now) }
         ensures kept { (state self.new).flushes ≡ (state self.old).flushes }
+        ensures left { (state self.new).is_flushed ≡ false }
         ensures fault { (state self.new).fault ≡ last_fault_after (state self.old).fault result }
         ensures refused { (state self.new).is_failing ≡ is_err result };
 
@@ -72,33 +75,40 @@ pub trait Stream {
         ensures refused { (state self.new).is_failing ≡ is_err result };
 }
 
-/// A writer as a stream. Its flushes aren't known.
+/// A sink as a stream. How often it was flushed isn't known.
 #[derive(Drop)]
-pub struct Written<W: Write> {
+pub struct Written<W: Sink> {
     /// Where the bytes go.
     pub writer: W,
+    is_flushed: bool,
     fault: Option<ErrorKind>,
     is_failing: bool,
 }
 
-impl<W: Write> Written<W> {
-    /// A stream that hasn't failed.
+impl<W: Sink> Written<W> {
+    /// A stream to which nothing went yet, and that hasn't failed.
     pub fn new(writer: W) -> Written<W>
-        ensures gives { result ≡ record { writer = writer; fault = None; is_failing = false } }
+        ensures gives { result ≡ record {
+          writer = writer;
+          is_flushed = true;
+          fault = None;
+          is_failing = false;
+        } }
     {
         Written {
             writer,
+            is_flushed: true,
             fault: None,
             is_failing: false,
         }
     }
 }
 
-impl<W: Write> Stream for Written<W> {
+impl<W: Sink> Stream for Written<W> {
     ghost state = { λ s. record {
       contents = W.contents s.writer;
       flushes = None;
-      is_flushed = true;
+      is_flushed = s.is_flushed;
       fault = s.fault;
       is_failing = s.is_failing;
     } };
@@ -107,34 +117,51 @@ impl<W: Write> Stream for Written<W> {
         self.fault.is_some()
     }
 
-    fn put(&mut self, bytes: &[u8]) -> Result<(), ErrorKind> {
+    fn put(&mut self, bytes: &[u8]) -> Result<(), ErrorKind>
+        ensures by_calls { Made W.gives self.old.writer self.new.writer (PutsBy bytes.now result) }
+        ensures gives { MatchResult result
+            (λ _. Appends (W.contents self.old.writer) (W.contents self.new.writer) bytes.now)
+            (λ _. WritesPrefix (W.contents self.old.writer) (W.contents self.new.writer)
+            bytes.now) }
+        ensures left { self.new.is_flushed ≡ false }
+        ensures fault { self.new.fault ≡ last_fault_after self.old.fault result }
+        ensures refused { self.new.is_failing ≡ is_err result }
+    {
+        self.is_flushed = false;
         let answer = put(&mut self.writer, bytes);
         noted(&mut self.fault, &mut self.is_failing, answer)
     }
 
-    fn flush(&mut self) -> Result<(), ErrorKind> {
+    #[tactic(auto, using(crate::proofs::CallLemmas::flushed_by))]
+    fn flush(&mut self) -> Result<(), ErrorKind>
+        ensures by_calls { Made W.gives self.old.writer self.new.writer (FlushesBy result) }
+        ensures kept { Keeps (W.contents self.old.writer) (W.contents self.new.writer) }
+        ensures whole { OnOk result (self.new.is_flushed ≡ true) }
+        ensures fault { self.new.fault ≡ last_fault_after self.old.fault result }
+        ensures refused { self.new.is_failing ≡ is_err result }
+    {
         let answer = self.writer.flush();
+        self.is_flushed = answer.is_ok();
         noted(&mut self.fault, &mut self.is_failing, answer)
     }
 }
 
-// A writer's answer. Whether it is a fault is noted, and which one.
+// An answer, of which is noted whether it is a fault, and which one.
 fn noted(
     fault: &mut Option<ErrorKind>,
     is_failing: &mut bool,
-    answer: io::Result<()>,
+    answer: Result<(), ErrorKind>,
 ) -> Result<(), ErrorKind>
-    ensures gives { result ≡ with_kind answer }
-    ensures fault { fault.new ≡ last_fault_after fault.old (with_kind answer) }
-    ensures refused { is_failing.new ≡ is_err (with_kind answer) }
+    ensures gives { result ≡ answer }
+    ensures fault { fault.new ≡ last_fault_after fault.old answer }
+    ensures refused { is_failing.new ≡ is_err answer }
 {
     match answer {
         Ok(()) => {
             *is_failing = false;
             Ok(())
         }
-        Err(error) => {
-            let kind = error.kind();
+        Err(kind) => {
             *is_failing = true;
             *fault = Some(kind);
             Err(kind)
@@ -143,7 +170,8 @@ fn noted(
 }
 
 // Writes the bytes; no call is tried again.
-fn put<W: Write>(out: &mut W, bytes: &[u8]) -> io::Result<()>
+fn put<W: Sink>(out: &mut W, bytes: &[u8]) -> Result<(), ErrorKind>
+    ensures by_calls { Made W.gives out.old out.new (PutsBy bytes.now result) }
     ensures gives { MatchResult result
         (λ _. Appends (W.contents out.old) (W.contents out.new) bytes.now)
         (λ _. WritesPrefix (W.contents out.old) (W.contents out.new) bytes.now) }
@@ -152,7 +180,7 @@ fn put<W: Write>(out: &mut W, bytes: &[u8]) -> io::Result<()>
     while !rest.is_empty() {
         let count = out.write(rest)?;
         if count == 0 {
-            return Err(io::Error::from(ErrorKind::WriteZero));
+            return Err(ErrorKind::WriteZero);
         }
         let (_, after) = rest.split_at(count);
         rest = after;

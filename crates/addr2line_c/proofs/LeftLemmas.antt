@@ -1,16 +1,24 @@
 -- The context that a lookup leaves, by its status (on specs/Left.antt).
-use Rattle.addr2line_c.proofs.Common.{◌≡◌, ◌≢◌, ◌⊎◌, ◌∙◌, ℕ, Bool, true, false, Option, Some, None, option_map, Result, Ok, Err, refl, sym, subst, Error, result_map, WasNotRefused, Status, Nothing, Refused, Waits, after_reply}
+use Rattle.addr2line_c.proofs.Common.{◌≡◌, ◌≢◌, ◌⊎◌, ◌∙◌, inl, inr, ℕ, Bool, true, false, List, Option, Some, None, option_map, Result, Ok, Err, refl, sym, subst, Error, ExactlyUnlessOom, frames_left, result_map, WasNotRefused, Status, Nothing, Refused, Waits, after_reply, status_of_error}
+use Rattle.std.specs.Prelude.{IfErr, IfOk}
+use Rattle.std.specs.List.{AllByRecursion}
 use Rattle.elf.specs.declared.error.LoaderError.TheVariants.{OutOfMemory}
 use Rattle.elf.specs.Text.{loader_error_of}
+use Rattle.addr2line_units.specs.declared.frames.FrameIter.{FrameIter}
 use Rattle.addr2line_units.specs.declared.frames.OnFault.TheVariants.{Stop}
 use Rattle.addr2line_units.specs.Locations.{is_found}
 use Rattle.addr2line.specs.AfterLookups.{AfterFrames, AfterFramesOver, IsKnownFew}
 use Rattle.addr2line.specs.Context.{AfterLookup, AfterRangeLookup, ContextState, IsReady, IsReadyForRange}
 use Rattle.addr2line.specs.LoadsByFiles.{WaitsForNone}
+use Rattle.addr2line.specs.WaitingLookups.{frames_of_context}
+use Rattle.addr2line.specs.declared.names.Style.{Style}
 use Rattle.addr2line.proofs.LoadingLemmas.{not_told}
 use Rattle.addr2line.proofs.NoLoadLemmas.{few_stays}
+use Rattle.addr2line_c.specs.declared.loads.AskedLoad.{AskedLoad}
 use Rattle.addr2line_c.specs.Answered.{done_if}
-use Rattle.addr2line_c.specs.Left.{LeavesFrames, LeavesLocation, LeavesRange, found_some, status_by, was_made}
+use Rattle.addr2line_c.specs.Left.{LeavesFrames, LeavesLocation, LeavesRange, MayBeRefused, WaitsForNew, found_some, status_by, was_made}
+use Rattle.addr2line_c.specs.PlainNames.{HasPlainName}
+use Rattle.addr2line_c.proofs.PlainNameLemmas.{found_plain}
 
 -- what was found is no refusal
 done_is_no_refusal : (fits : Bool) → done_if fits ≢ Refused OutOfMemory
@@ -146,19 +154,49 @@ frames_came probe (Err e) old new a = record {
   memory = a.memory;
 }
 
-pub leaves_frames : {X : Type 0} (shares : Bool) (probe : ℕ) (fits : Bool) (s : Status) (r : Result X Error)
-    (old new : ContextState)
-    → (s ≡ Refused OutOfMemory) ⊎ (s ≡ status_by Waits fits (found_some r))
-    → AfterFramesOver shares Stop probe r old new → LeavesFrames probe fits s old new
-leaves_frames shares probe fits s r old new is a =
-    record { came = found_some r; status = is; after = frames_came probe r old new a.after }
+-- where frames were found, memory was refused for names alone
+frames_status : {R S : Type 0} (probe : ℕ) (names : Option Style) (fits : Bool) (s : Status)
+    (found : Result (FrameIter R) Error) (asked : List (AskedLoad S)) (old : ContextState)
+    → (s ≡ Refused OutOfMemory) ⊎ (s ≡ status_by Waits fits (found_some found))
+    → IfErr found (λ e. s ≡ status_of_error e)
+    → (names ≡ None → s ≡ status_by Waits fits (found_some found))
+    → (IfOk found (λ i. AllByRecursion HasPlainName (frames_left i)) → s ≡ status_by Waits fits (found_some found))
+    → ExactlyUnlessOom (λ (i : FrameIter R). Some (frames_left i)) found (frames_of_context old probe)
+    → (s ≡ status_by Waits fits (found_some found))
+    ⊎ ((s ≡ Refused OutOfMemory) × MayBeRefused names probe old asked (found_some found))
+frames_status probe names fits s found asked old (inr is) fault raw plain told = inl is
+frames_status probe names fits s (Err e) asked old (inl oom) fault raw plain told = inl fault
+frames_status probe names fits s (Ok frames) asked old (inl oom) fault raw plain told = inr (
+  oom,
+  (
+    λ none. done_is_no_refusal fits (sym (raw none) ∙ oom),
+    λ all. done_is_no_refusal fits (sym (plain (found_plain (Ok frames) (frames_of_context old probe) told all)) ∙ oom),
+  ),
+)
+
+pub leaves_frames : {R S : Type 0} (shares : Bool) (probe : ℕ) (names : Option Style) (fits : Bool) (s : Status)
+    (found : Result (FrameIter R) Error) (asked : List (AskedLoad S)) (old new : ContextState)
+    → (s ≡ Refused OutOfMemory) ⊎ (s ≡ status_by Waits fits (found_some found))
+    → IfErr found (λ e. s ≡ status_of_error e)
+    → (names ≡ None → s ≡ status_by Waits fits (found_some found))
+    → (IfOk found (λ i. AllByRecursion HasPlainName (frames_left i)) → s ≡ status_by Waits fits (found_some found))
+    → ExactlyUnlessOom (λ (i : FrameIter R). Some (frames_left i)) found (frames_of_context old probe)
+    → AfterFramesOver shares Stop probe found old new
+    → LeavesFrames probe names fits s asked old new
+leaves_frames shares probe names fits s found asked old new is fault raw plain told a = record {
+  came = found_some found;
+  status = frames_status probe names fits s found asked old is fault raw plain told;
+  after = frames_came probe found old new a.after;
+}
 
 -- a lookup that waits has left the context so
-pub leaves_waiting : (probe : ℕ) (fits : Bool) (s : Status) (old new held : ContextState)
-    → (s ≡ Refused OutOfMemory) ⊎ (s ≡ Waits) → new ≡ held
-    → AfterFrames {X = Unit {0}} Stop probe (Ok tt) old held → LeavesFrames probe fits s old new
-leaves_waiting probe fits s old new held is same a =
-    subst (λ n. LeavesFrames probe fits s old n) (sym same) (record {
+pub leaves_waiting : {S : Type 0} (probe : ℕ) (names : Option Style) (fits : Bool) (s : Status)
+    (asked : List (AskedLoad S)) (old new held : ContextState)
+    → (s ≡ Waits) ⊎ ((s ≡ Refused OutOfMemory) × WaitsForNew probe old asked) → new ≡ held
+    → AfterFrames {X = Unit {0}} Stop probe (Ok tt) old held
+    → LeavesFrames probe names fits s asked old new
+leaves_waiting probe names fits s asked old new held is same a =
+    subst (λ n. LeavesFrames probe names fits s asked old n) (sym same) (record {
       came = Ok None;
       status = is;
       after = record {

@@ -4,9 +4,11 @@ pub mod LoadLemmas
 pub mod SequenceLemmas
 pub mod TextLemmas
 pub mod SpanLemmas
+pub mod PlainNameLemmas
 pub mod LeftLemmas
 pub mod CallLemmas
 pub mod LoadCallLemmas
+pub mod NoneOpenLemmas
 pub mod WaitLemmas
 pub mod Values
 pub mod Handles

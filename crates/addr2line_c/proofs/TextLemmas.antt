@@ -1,6 +1,6 @@
 -- Texts in a buffer, and the parts that name them (on specs/Texts.antt, specs/Written.antt, specs/WrittenSpans.antt and
 -- specs/Loads.antt).
-use Rattle.addr2line_c.proofs.Common.{◌≡◌, ◌≤◌, ◌<◌, ◌+◌, ◌-◌, ◌^◌, ◌++◌, ◌∷◌, ◌∙◌, ℕ, Bool, List, [], Option, Some, None, Result, Ok, Err, ap, refl, sym, subst, length, take, drop, arith, append_assoc, append-nil, length-append, take-append-drop, Error, SplitLoad, IsFilled, saturated, EachNames, NamesText, optional_text, zero_ended, text_after, NamesFrame, location_file, frame_name, frame_texts, frames_texts, written_frame, written_frames, NamesSpan, texts_of_span, texts_of_spans, written_span, written_spans}
+use Rattle.addr2line_c.proofs.Common.{◌≡◌, ◌≤◌, ◌<◌, ◌+◌, ◌-◌, ◌^◌, ◌++◌, ◌∷◌, ◌∙◌, ℕ, List, [], Option, Some, None, Result, Ok, Err, ap, refl, sym, subst, length, take, drop, arith, append_assoc, append-nil, length-append, take-append-drop, Error, SplitLoad, IsFilled, saturated, EachNames, NamesText, optional_text, zero_ended, text_after, NamesFrame, location_file, frame_name, frame_texts, frames_texts, written_frame, written_frames, NamesSpan, texts_of_span, texts_of_spans, written_span, written_spans}
 use Rattle.std.proofs.lemmas.Grind.{flat_map-append}
 use Rattle.std.proofs.Math.Nat.{min-eq_left}
 use Rattle.std.proofs.Math.Seq.{drop-append_seam, take-append_seam}

@@ -1,16 +1,18 @@
 -- What the calls of an open file answer, write and leave, and what C gets of them by a handle.
--- Own: a handle that isn't open answers so, and stays as it is.
-use Rattle.std.specs.Prelude.{◌≡◌, ◌≢◌, ◌⊎◌, ◌==◌, ◌∷◌, ℕ, Bool, true, false, List, [], length, nat_le, Option, Some, None, Ok, Err, if◌then◌else◌}
+-- Own: a handle that isn't open answers so, and stays as it is, and nothing is written.
+use Rattle.std.specs.Prelude.{◌≡◌, ◌≢◌, ◌⊎◌, ◌==◌, ◌∷◌, ℕ, true, List, [], length, nat_le, Option, Some, None, Ok, Err, IfErr, if◌then◌else◌}
 use Rattle.elf.specs.declared.error.LoaderError.{LoaderError}
 use Rattle.addr2line.specs.declared.names.Style.{Style}
-use Rattle.addr2line_c.specs.Common.{OutOfMemory, location_of, IsReady, IsReadyForRange, of_file}
+use Rattle.addr2line_c.specs.Common.{OutOfMemory, location_of, IsReady, IsReadyForAll, IsReadyForRange, of_file}
+use Rattle.elf.specs.ObjectFile.{object_file_of}
 use Rattle.elf.specs.Sections.{section_range_at}
 use Rattle.elf.specs.Symbols.{symbol_at}
 use Rattle.addr2line_units.specs.declared.frames.OnFault.TheVariants.{Stop}
+use Rattle.addr2line_units.specs.declared.parses.ReadingDepth.TheVariants.{Details}
 use Rattle.addr2line.specs.declared.compressed.CompressedSections.{CompressedSections}
 use Rattle.addr2line.specs.AfterLookups.{IsKnownFew}
 use Rattle.addr2line.specs.Loaded.{loaded_bytes}
-use Rattle.addr2line.specs.Loads.{AfterPreload}
+use Rattle.addr2line.specs.Loads.{AfterPreload, IsReadyToRead, NoneOpenAt}
 use Rattle.addr2line.specs.LoadsByFiles.{WaitsForNone}
 use Rattle.addr2line.specs.WaitingLookups.{frames_of_context}
 use Rattle.addr2line.specs.WarmUp.{IsWarm}
@@ -26,8 +28,9 @@ use Rattle.addr2line_c.specs.Answered.{HasMemory, IfNothing, SaysWhatIsThere, do
 use Rattle.addr2line_c.specs.AskedLoads.{waiting_load}
 use Rattle.addr2line_c.specs.Filled.{IsFilled}
 use Rattle.addr2line_c.specs.Left.{AsksIfWaiting, LeavesFrames, LeavesLocation, LeavesRange}
-use Rattle.addr2line_c.specs.LoadCalls.{AnswersTokenAs, ForgetsToken, ParsesAllAs, PreloadsAs}
+use Rattle.addr2line_c.specs.LoadCalls.{AnswersTokenAs, ForgetsToken, ParsesAllAs, PreloadsAs, SaysAnsweredNone, status_of_all}
 use Rattle.addr2line_c.specs.Loads.{IsWrittenLoad}
+use Rattle.addr2line_c.specs.PlainNames.{AreNamedPlain}
 use Rattle.addr2line_c.specs.Status.{status_number, status_text}
 use Rattle.addr2line_c.specs.Texts.{zero_ended}
 use Rattle.addr2line_c.specs.Written.{IsWrittenLocation, SaysFrames, frames_fit}
@@ -35,11 +38,17 @@ use Rattle.addr2line_c.specs.WrittenSpans.{SaysSpans, spans_from}
 use Rattle.addr2line_c.specs.WrittenSymbols.{IsWrittenRange, IsWrittenSymbol}
 
 -- what a handle owns before and after a call, and the number that it answers: those of a call of
--- the open file, or nothing, and that it is closed
-abbrev pub CallsFile : {F : Type 0} → Option F → Option F → ℕ → (F → F → Status → Type 0) → Type 0
-CallsFile None new number says = (new ≡ None) × (number ≡ status_number Closed)
-CallsFile {F} (Some old) new number says = (left : F) × (s : Status)
+-- the open file; or nothing, that it is closed, and what the call could write is untouched
+abbrev pub CallsFile : {F : Type 0} → Option F → Option F → ℕ → Type 0
+    → (F → F → Status → Type 0) → Type 0
+CallsFile None new number untouched says =
+    (new ≡ None) × (number ≡ status_number Closed) × untouched
+CallsFile {F} (Some old) new number untouched says = (left : F) × (s : Status)
     × (new ≡ Some left) × (number ≡ status_number s) × says old left s
+
+-- a call has no places to write into
+abbrev pub NoPlaces : Type 0
+NoPlaces = Unit {0}
 
 -- nothing but the context is another one
 abbrev pub ChangesContext : OpenFile → OpenFile → Type 0
@@ -64,10 +73,14 @@ pub record FramesAt (probe : ℕ) (names : Option Style) (out : List WrittenFram
     (buffer : List ℕ) (needed : ℕ) (old new : OpenFile) (s : Status) : Type 0 where
   pub gives : SaysFrames names (frames_of_context old.context probe) out count buffer needed s
   pub none : IfNothing s ((count ≡ 0) × (needed ≡ 0))
-  pub left : LeavesFrames probe (frames_fit out count buffer needed) s old.context new.context
+  pub left : LeavesFrames probe names (frames_fit out count buffer needed) s
+      old.loads.loads.items old.context new.context
   pub asks : AsksIfWaiting probe old.context old.loads.loads.items new.loads.loads.items s
   pub memory : names ≡ None → WaitsForNone old.context probe
       → IsKnownFew Stop old.context probe → s ≢ Refused OutOfMemory
+  pub plain : AreNamedPlain (frames_of_context old.context probe)
+      → WaitsForNone old.context probe → IsKnownFew Stop old.context probe
+      → s ≢ Refused OutOfMemory
   pub others : ChangesLoads old new
 
 -- the same by flags: where one isn't known nothing is there, and nothing is done
@@ -97,11 +110,13 @@ pub record TellsLoad (out : WrittenLoad) (buffer : List ℕ) (needed : ℕ) (old
   pub memory : HasMemory s
   pub others : new ≡ old
 
--- the load of a token was answered by the file that bytes are
+-- the load of a token was answered by the file that bytes are, by none where there are no bytes,
+-- which takes no memory
 pub record AnswersToken (token : ℕ) (bytes : List ℕ) (old new : OpenFile) (s : Status)
     : Type 0 where
   pub gives : AnswersTokenAs old.compressed token bytes s old.context new.context
       old.loads.loads.items new.loads.loads.items
+  pub none : bytes ≡ [] → SaysAnsweredNone token s old.context old.loads.loads.items
   pub others : ChangesLoads old new
 
 -- the answer to the load of a token was taken back
@@ -110,16 +125,21 @@ pub record ForgetsAnswer (token : ℕ) (old new : OpenFile) (s : Status) : Type 
       new.loads.loads.items
   pub others : ChangesLoads old new
 
--- the loads of an address were asked for
+-- the loads of an address were asked for; where no unit that covers it is open there are none, and
+-- no memory is taken
 pub record PreloadsAt (probe : ℕ) (old new : OpenFile) (s : Status) : Type 0 where
   pub gives : PreloadsAs probe old.context old.loads.loads.items new.loads.loads.items s
+  pub none : NoneOpenAt old.context probe → s ≡ Done
   pub after : AfterPreload probe old.context new.context
   pub others : ChangesLoads old new
 
--- the lines and the functions of all units were read
+-- the lines and the functions of all units were read; where they are read already, up to the first
+-- faults, no memory is taken
 pub record ParsesAll (old new : OpenFile) (s : Status) : Type 0 where
   pub gives : ParsesAllAs s old.context new.context
   pub ready : s ≡ Done → IsWarm new.context
+  pub exact : IsReadyForAll old.context → IsReadyToRead Details old.context
+      → s ≡ status_of_all old.context
   pub others : ChangesContext old new
 
 -- the symbol at the probe was looked up
@@ -151,13 +171,15 @@ pub record IsOpened (compressed : CompressedSections) (bytes sup : List ℕ) (fi
   pub by : file.compressed ≡ compressed
   pub loads : file.loads.loads.items ≡ []
 
--- a handle has the file of these bytes, or nothing, and the number says why
+-- a handle has the file of these bytes, or nothing, and the number says why; where the bytes are no
+-- ELF file no memory is taken
 abbrev pub OpensFile : CompressedSections → List ℕ → List ℕ → Option OpenFile → ℕ → Type 0
 OpensFile compressed bytes sup (Some file) number =
     (number ≡ status_number Done) × IsOpened compressed bytes sup file
 OpensFile compressed bytes sup None number = (e : LoaderError)
     × (number ≡ status_number (Refused e))
     × (e ≢ OutOfMemory → loaded_bytes compressed bytes (given_sup sup) ≡ Err e)
+    × IfErr (object_file_of bytes) (λ fault. e ≡ fault)
 
 -- the same by flags: where one isn't known it has nothing
 abbrev pub OpensFileBy : Option CompressedSections → List ℕ → List ℕ → Option OpenFile → ℕ → Type 0

@@ -9,6 +9,7 @@ pub mod AskedLoads
 pub mod WrittenSymbols
 pub mod Sequence
 pub mod Held
+pub mod PlainNames
 pub mod Written
 pub mod WrittenSpans
 pub mod Left

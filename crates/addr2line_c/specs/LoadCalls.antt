@@ -2,7 +2,7 @@
 -- status, the context that is left, and which loads wait then (DWARF 5, sections 3.1.2 and 7.3.2).
 -- Own: a file that is refused and one of another unit are answered none, and the status says why.
 -- Where memory is refused the load goes on waiting.
-use Rattle.std.specs.Prelude.{◌≡◌, ◌≢◌, ◌==◌, ◌++◌, ℕ, Bool, true, false, not, List, [], length, Option, Some, None, Result, Ok, Err, if◌then◌else◌}
+use Rattle.std.specs.Prelude.{◌≡◌, ◌≢◌, ◌⊎◌, ◌==◌, ◌++◌, ◌∷◌, ℕ, Bool, true, false, not, List, [], length, Option, Some, None, Result, Ok, Err, IfSome, if◌then◌else◌}
 use Rattle.addr2line_c.specs.Common.{Error, UnknownToken, IsUnlessOom, WasNotRefused, Sections, Loading, SplitLoad, ContextState, IsReadyForAll, ParsesToFault, Stays, lines_of_all, or_none, split_of}
 use Rattle.elf.specs.declared.error.LoaderError.TheVariants as loading
 use Rattle.addr2line_units.specs.declared.parses.ReadingDepth.TheVariants.{Details}
@@ -12,7 +12,7 @@ use Rattle.addr2line.specs.Lookups.{loads_at}
 use Rattle.addr2line_c.specs.declared.loads.AskedLoad.{AskedLoad}
 use Rattle.addr2line_c.specs.declared.status.Status.{Status}
 use Rattle.addr2line_c.specs.declared.status.Status.TheVariants.{Done, Waits, OtherUnit, Refused}
-use Rattle.addr2line_c.specs.AskedLoads.{load_of_token, with_loads, with_waits}
+use Rattle.addr2line_c.specs.AskedLoads.{load_of_token, place_of_load, with_loads, with_waits}
 use Rattle.addr2line_c.specs.Status.{after_reply, status_of_error}
 
 -- what the file that bytes are has for a load, nothing where there are no bytes
@@ -32,6 +32,10 @@ status_of_answer has_file (Err e) = Refused e
 abbrev pub is_out_of_memory : Status → Bool
 is_out_of_memory (Refused loading.OutOfMemory) = true
 is_out_of_memory s = false
+
+-- the status of an answer none to the load of the unit of a number
+abbrev pub status_of_none : ContextState → ℕ → Status
+status_of_none c n = after_reply (load_reply c.sections c.answers n None) Done
 
 -- the load of the unit of a number was answered by what its file has, by none where that is refused
 pub record AnswersLoadAs (has_file : Bool) (given : Loading (Option Sections)) (n : ℕ) (s : Status)
@@ -63,6 +67,11 @@ module _ {R : Type 0} where
         load.unit s old new × (left ≡ loads_answered s asked token)
   ]
 
+  -- the status is that of an answer none to the load of a token, if there is such a load
+  abbrev pub SaysAnsweredNone : ℕ → Status → ContextState → List (AskedLoad R) → Type 0
+  SaysAnsweredNone token s c asked =
+      IfSome (load_of_token asked token) (λ load. s ≡ status_of_none c load.unit)
+
   -- the answer to the load of a token was taken back, or there is no such load
   abbrev pub ForgetsToken : ℕ → Status → ContextState → ContextState → List (AskedLoad R)
       → List (AskedLoad R) → Type 0
@@ -72,12 +81,19 @@ module _ {R : Type 0} where
         × AfterForgetting load.unit old new × (left ≡ with_waits false asked token)
   ]
 
-  -- some of the loads were asked for, the first ones
-  abbrev pub AsksForSome : List SplitLoad → List (AskedLoad R) → List (AskedLoad R) → Type 0
-  AsksForSome loads asked left = (first rest : List SplitLoad) × (first ++ rest ≡ loads)
-      × (left ≡ with_loads asked first)
+  -- the first of the loads were asked for, up to one that isn't among those that are left, so that
+  -- it has to be added
+  abbrev pub AsksUpToNew : List SplitLoad → List (AskedLoad R) → List (AskedLoad R) → Type 0
+  AsksUpToNew loads asked left = (first rest : List SplitLoad) × (load : SplitLoad)
+      × (first ++ load ∷ rest ≡ loads) × (left ≡ with_loads asked first)
+      × (place_of_load left load.unit ≡ None)
 
-  -- these loads were asked for, none were wanted, or memory was refused for some
+  -- none of the loads was asked for, or the first ones up to a new one
+  abbrev pub AsksForSome : List SplitLoad → List (AskedLoad R) → List (AskedLoad R) → Type 0
+  AsksForSome loads asked left = (left ≡ asked) ⊎ AsksUpToNew loads asked left
+
+  -- these loads were asked for, none were wanted, or memory was refused for their list or for a new
+  -- one
   abbrev pub AsksForAll : List SplitLoad → List (AskedLoad R) → List (AskedLoad R) → Status → Type 0
   AsksForAll loads asked left Done = (loads ≡ []) × (left ≡ asked)
   AsksForAll loads asked left Waits = (loads ≢ []) × (left ≡ with_loads asked loads)
@@ -91,11 +107,13 @@ module _ {R : Type 0} where
   PreloadsAs probe c asked left s =
       AsksForAll (loads_at c.sections c.answers probe) asked left s
 
--- the lines of all units were read, up to the first fault
+-- the lines of all units were read, up to the first fault; memory was refused only where some are
+-- left
 pub record AfterLinesCall (result : Result (Unit {0}) Error) (old new : ContextState) : Type 0 where
   pub stays : Stays old new
   pub only : ParsesToFault old new
   pub ready : WasNotRefused result → IsReadyForAll new
+  pub memory : IsReadyForAll new → WasNotRefused result
 
 -- the lines of all units were read and then the functions, each up to the first fault; the status
 -- says the first of these faults
@@ -108,3 +126,8 @@ pub record ParsesAllAs (s : Status) (old new : ContextState) : Type 0 where
   pub between : ContextState
   pub after_lines : AfterLinesCall lines old between
   pub after_functions : AfterParse Details functions between new
+
+-- the status of what the lines and the functions of all units give, up to the first fault of each
+abbrev pub status_of_all : ContextState → Status
+status_of_all c = after_reply (lines_of_all c.sections)
+    (after_reply (parse_reply Details c.sections c.answers) Done)

@@ -1,15 +1,16 @@
 //! Answers to loads, and what forgets them.
 
-ghost use Rattle.std.specs.Prelude.{◌≡◌, ◌≢◌, Err, OnErr, OnOk, IfErr, Ok, Option, is_some, option_map};
+ghost use Rattle.std.specs.Prelude.{◌≡◌, ◌≢◌, [], false, Err, OnErr, OnOk, IfErr, Ok, None, Option, is_some, option_map};
 ghost use Rattle.gimli_read.specs.declared.error.Error.TheVariants.{OutOfMemory};
-ghost use Rattle.addr2line_c.specs.Common.{Sections, Loading, LoadsUnlessOom};
+ghost use Rattle.addr2line_c.specs.Common.{IsReadyForAll, Sections, Loading, LoadsUnlessOom};
 ghost use Rattle.elf.specs.declared.error.LoaderError.TheVariants.{OutOfMemory as NoMemory};
 ghost use Rattle.addr2line_units.specs.Loads.{token_number};
-ghost use Rattle.addr2line.specs.Loads.{AfterPreload};
+ghost use Rattle.addr2line_units.specs.declared.parses.ReadingDepth.TheVariants.{Details};
+ghost use Rattle.addr2line.specs.Loads.{AfterPreload, IsReadyToRead, NoneOpenAt};
 ghost use Rattle.addr2line.specs.WarmUp.{IsWarm};
 ghost use Rattle.addr2line_c.specs.declared.status.Status.TheVariants.{Done};
 ghost use Rattle.addr2line_c.specs.AskedLoads.{with_loads};
-ghost use Rattle.addr2line_c.specs.LoadCalls.{AnswersLoadAs, AnswersTokenAs, AsksForSome, ForgetsToken, ParsesAllAs, PreloadsAs, answer_of_bytes, is_out_of_memory, status_of_answer};
+ghost use Rattle.addr2line_c.specs.LoadCalls.{AnswersLoadAs, AnswersTokenAs, AsksUpToNew, ForgetsToken, ParsesAllAs, PreloadsAs, SaysAnsweredNone, answer_of_bytes, is_out_of_memory, status_of_all, status_of_answer, status_of_none};
 ghost use Rattle.addr2line_c.specs.Status.{after_reply};
 
 use crate::loads::AskedLoads;
@@ -32,6 +33,7 @@ fn read_answer(
 ) -> Result<Option<Rc<Dwarf<EndianBytes>>>, LoaderError>
     ensures gives { LoadsUnlessOom (option_map (λ d. d.value)) result
         (answer_of_bytes compressed load.now bytes.now) }
+    ensures none { bytes.now ≡ [] → result ≡ Ok None }
 {
     if bytes.is_empty() {
         return Ok(None);
@@ -96,6 +98,8 @@ fn answer_by<R: Reader>(
     ensures gives { (given : Loading (Option Sections))
         → LoadsUnlessOom (option_map (λ d. d.value)) read given
         → AnswersLoadAs has_file given (token_number unit) result context.old context.new }
+    ensures none { has_file ≡ false → read ≡ Ok None
+        → result ≡ status_of_none context.old (token_number unit) }
 {
     match read {
         Ok(sections) => {
@@ -108,7 +112,8 @@ fn answer_by<R: Reader>(
 
 /// Answers the load of a token by the file that bytes are, by none where there are no bytes.
 ///
-/// A load that is answered waits no more. Refused memory leaves it waiting.
+/// A load that is answered waits no more. Refused memory leaves it waiting. Takes no memory where
+/// there are no bytes.
 pub(crate) fn answer(
     alloc: Global,
     compressed: CompressedSections,
@@ -119,6 +124,8 @@ pub(crate) fn answer(
 ) -> Status
     ensures gives { AnswersTokenAs compressed token bytes.now result context.old context.new
         loads.old.loads.items loads.new.loads.items }
+    ensures none { bytes.now ≡ [] → SaysAnsweredNone token result context.old
+        loads.old.loads.items }
 {
     let status = match loads.get(token) {
         Some(load) => {
@@ -151,14 +158,14 @@ pub(crate) fn forget<R: Reader>(
     after_reply(context.forget(unit), Status::Done)
 }
 
-// Asks for loads, one after another, up to the first for which memory is refused.
+// Asks for loads, one after another, up to the first for which memory is refused: a new one.
 fn ask_all<R: Reader>(
     loads: &mut AskedLoads<R>,
     wanted: Vec<SplitDwarfLoad<R>>,
 ) -> Result<(), Error>
     ensures gives { OnOk result (loads.new.loads.items
         ≡ with_loads loads.old.loads.items wanted.items) }
-    ensures kept { OnErr result (AsksForSome wanted.items loads.old.loads.items
+    ensures kept { OnErr result (AsksUpToNew wanted.items loads.old.loads.items
         loads.new.loads.items) }
     ensures refused { IfErr result (λ e. e ≡ OutOfMemory) }
 {
@@ -168,7 +175,8 @@ fn ask_all<R: Reader>(
     Ok(())
 }
 
-/// Asks for the loads of an address, before a lookup does.
+/// Asks for the loads of an address, before a lookup does. Takes no memory where no unit that covers
+/// it is open.
 pub(crate) fn preload<R: Reader>(
     context: &mut Context<R>,
     loads: &mut AskedLoads<R>,
@@ -176,6 +184,7 @@ pub(crate) fn preload<R: Reader>(
 ) -> Status
     ensures gives { PreloadsAs probe context.old loads.old.loads.items loads.new.loads.items
         result }
+    ensures none { NoneOpenAt context.old probe → result ≡ Done }
     ensures after { AfterPreload probe context.old context.new }
 {
     let wanted = match context.preload_units(probe) {
@@ -190,10 +199,13 @@ pub(crate) fn preload<R: Reader>(
     }
 }
 
-/// Parses the lines of all units, and their functions.
+/// Parses the lines of all units, and their functions. Takes no memory where they are parsed
+/// already, each up to the first fault.
 pub(crate) fn parse_all<R: Reader>(context: &mut Context<R>) -> Status
     ensures gives { ParsesAllAs result context.old context.new }
     ensures ready { result ≡ Done → IsWarm context.new }
+    ensures exact { IsReadyForAll context.old → IsReadyToRead Details context.old
+        → result ≡ status_of_all context.old }
 {
     let lines = context.parse_lines();
     let functions = context.parse_inlined_functions();

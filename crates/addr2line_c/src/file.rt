@@ -1,6 +1,7 @@
 //! An open file.
 
-ghost use Rattle.std.specs.Prelude.{◌≡◌, [], IfOk, length, option_map};
+ghost use Rattle.std.specs.Prelude.{◌≡◌, [], Err, IfErr, IfOk, length, option_map};
+ghost use Rattle.elf.specs.ObjectFile.{object_file_of};
 ghost use Rattle.addr2line_c.specs.Common.{LoadsUnlessOom};
 ghost use Rattle.addr2line.specs.Loaded.{loaded_bytes};
 ghost use Rattle.addr2line_c.specs.Calls.{given_sup};
@@ -40,7 +41,7 @@ fn bytes_if(bytes: &'static [u8]) -> Option<Bytes>
 }
 
 /// The file that bytes are, with a supplementary file where there are bytes of one. No byte is
-/// copied, but of sections that are decompressed.
+/// copied, but of sections that are decompressed. Takes no memory where the bytes are no ELF file.
 pub(crate) fn open(
     alloc: Global,
     compressed: CompressedSections,
@@ -49,6 +50,7 @@ pub(crate) fn open(
 ) -> Result<Box<OpenFile>, LoaderError>
     ensures gives { LoadsUnlessOom (λ b. (b.value.object, b.value.context)) result
         (loaded_bytes compressed bytes.now (given_sup sup.now)) }
+    ensures refused { IfErr (object_file_of bytes.now) (λ e. result ≡ Err e) }
     ensures by { IfOk result (λ b. b.value.compressed ≡ compressed) }
     ensures empty { IfOk result (λ b. b.value.loads.loads.items ≡ []) }
 {

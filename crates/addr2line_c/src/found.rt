@@ -1,6 +1,7 @@
 //! What lookups found, with what C gets of it.
 
-ghost use Rattle.std.specs.Prelude.{◌≡◌, ◌⊎◌, None, Some, length, nat_le, option_map};
+ghost use Rattle.std.specs.Prelude.{◌≡◌, ◌⊎◌, None, Some, IfErr, IfOk, length, nat_le, option_map};
+ghost use Rattle.std.specs.List.{AllByRecursion};
 ghost use Rattle.addr2line_c.specs.Common.{ExactlyUnlessOom, OutOfMemory, LocationResult, of_file};
 ghost use Rattle.addr2line_lines.specs.LentLocation.{as_location};
 ghost use Rattle.addr2line_units.specs.FramesLeft.{frames_left};
@@ -8,6 +9,8 @@ ghost use Rattle.addr2line_units.specs.EntriesFrames.{FramesResult};
 ghost use Rattle.addr2line_c.specs.declared.status.Status.TheVariants.{Nothing, Refused, Waits};
 ghost use Rattle.addr2line_c.specs.Answered.{IfNothing, SaysWhatIsThere};
 ghost use Rattle.addr2line_c.specs.Left.{found_some, status_by};
+ghost use Rattle.addr2line_c.specs.PlainNames.{HasPlainName};
+ghost use Rattle.addr2line_c.specs.Status.{status_of_error};
 ghost use Rattle.addr2line_c.specs.Written.{IsWrittenLocation, SaysFrames, frames_fit};
 
 use crate::frames::{WrittenFrame, put_frames};
@@ -59,7 +62,11 @@ pub(crate) fn put_found_frames<R: Reader>(
     ensures none { IfNothing result ((count.new ≡ 0) × (needed.new ≡ 0)) }
     ensures whole { (result ≡ Refused OutOfMemory) ⊎ (result ≡ status_by Waits
         (frames_fit out.new count.new buffer.new needed.new) (found_some found.entry)) }
+    ensures fault { IfErr found.entry (λ e. result ≡ status_of_error e) }
     ensures memory { names ≡ None → result ≡ status_by Waits
+        (frames_fit out.new count.new buffer.new needed.new) (found_some found.entry) }
+    ensures plain { IfOk found.entry (λ i. AllByRecursion HasPlainName (frames_left i))
+        → result ≡ status_by Waits
         (frames_fit out.new count.new buffer.new needed.new) (found_some found.entry) }
 {
     *count = 0;

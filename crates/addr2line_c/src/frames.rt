@@ -1,10 +1,12 @@
 //! Frames, as C gets them.
 
 ghost use Rattle.std.specs.Prelude.{◌≡◌, ◌++◌, ℕ, List, [], length, IfErr, IfOk, IsOk, None, OnOk, Some};
+ghost use Rattle.std.specs.List.{AllByRecursion};
 ghost use Rattle.gimli_read.specs.declared.error.Error.TheVariants.{OutOfMemory};
 ghost use Rattle.addr2line_units.specs.FramesLeft.{frames_left};
 ghost use Rattle.addr2line_units.specs.FramesLent.{as_frame, as_name};
 ghost use Rattle.addr2line_c.specs.Filled.{IsFilled};
+ghost use Rattle.addr2line_c.specs.PlainNames.{HasPlainName, IsPlainName};
 ghost use Rattle.addr2line_c.specs.Texts.{optional_text, zero_ended, text_after};
 ghost use Rattle.addr2line_c.specs.Written.{chosen_name, frame_name, frame_texts, frames_texts, written_frame, written_frames};
 
@@ -28,7 +30,7 @@ pub struct WrittenFrame {
 }
 
 // A name after the texts of the buffer: in its language, or as the file has it. Refused
-// `OutOfMemory` alone, and never as the file has it.
+// `OutOfMemory` alone, and never as the file has it, nor where the name is plain.
 fn put_name<R: Reader>(
     alloc: Global,
     name: &FunctionName<'_, R>,
@@ -44,6 +46,7 @@ fn put_name<R: Reader>(
         (Some (chosen_name names (as_name R.section name.now)))) }
     ensures refused { IfErr result (λ e. e ≡ OutOfMemory) }
     ensures memory { names ≡ None → IsOk result }
+    ensures plain { IsPlainName (as_name R.section name.now) → IsOk result }
     ensures kept { length buffer.new ≡ length buffer.old }
 {
     let Some(style) = names else {
@@ -70,6 +73,7 @@ fn put_name_if<R: Reader>(
         (frame_name names (as_frame R.section frame.now))) }
     ensures refused { IfErr result (λ e. e ≡ OutOfMemory) }
     ensures memory { names ≡ None → IsOk result }
+    ensures plain { HasPlainName (as_frame R.section frame.now) → IsOk result }
     ensures kept { length buffer.new ≡ length buffer.old }
 {
     match &frame.function {
@@ -100,6 +104,7 @@ fn put_frame<R: Reader>(
         → IfOk result (λ p. p ≡ written_frame names before (as_frame R.section frame.now)) }
     ensures refused { IfErr result (λ e. e ≡ OutOfMemory) }
     ensures memory { names ≡ None → IsOk result }
+    ensures plain { HasPlainName (as_frame R.section frame.now) → IsOk result }
     ensures kept { length buffer.new ≡ length buffer.old }
 {
     let function = put_name_if(alloc, frame, names, buffer, used)?;
@@ -114,7 +119,7 @@ fn put_frame<R: Reader>(
 /// The frames that are left, at the front of `out`, with their texts in the buffer. Gives how many
 /// frames there are, and writes how many bytes their texts need, up to the greatest number.
 ///
-/// Refused `OutOfMemory` alone, and never where names aren't demangled.
+/// Refused `OutOfMemory` alone, and never where names aren't demangled, nor where each is plain.
 pub(crate) fn put_frames<R: Reader>(
     alloc: Global,
     frames: FrameIter<'_, R>,
@@ -129,6 +134,7 @@ pub(crate) fn put_frames<R: Reader>(
         (zero_ended (frames_texts names (frames_left frames.entry)))) }
     ensures refused { IfErr result (λ e. e ≡ OutOfMemory) }
     ensures memory { names ≡ None → IsOk result }
+    ensures plain { AllByRecursion HasPlainName (frames_left frames.entry) → IsOk result }
     ensures kept { (length out.new ≡ length out.old) × (length buffer.new ≡ length buffer.old) }
 {
     let mut frames = frames;

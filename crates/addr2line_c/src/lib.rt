@@ -4,7 +4,7 @@
 ghost use Rattle.std.specs.Prelude.{◌≡◌, None, length};
 ghost use Rattle.addr2line.specs.declared.compressed.CompressedSections.TheVariants as compressed;
 ghost use Rattle.addr2line_c.specs.Flags.{compressed_by, names_by};
-ghost use Rattle.addr2line_c.specs.Calls.{AnswersToken, CallsFile, ForgetsAnswer, FramesBy, LocatesAt, OpensFile, OpensFileBy, ParsesAll, PreloadsAt, SectionNamed, SpansFrom, SymbolAt, TellsLoad, TellsStatusIfAny};
+ghost use Rattle.addr2line_c.specs.Calls.{AnswersToken, CallsFile, ForgetsAnswer, FramesBy, LocatesAt, NoPlaces, OpensFile, OpensFileBy, ParsesAll, PreloadsAt, SectionNamed, SpansFrom, SymbolAt, TellsLoad, TellsStatusIfAny};
 
 mod answers;
 mod file;
@@ -130,6 +130,7 @@ pub extern "C" fn addr2line_find_location(
     needed: &mut usize,
 ) -> u32
     ensures gives { CallsFile handle.old.value handle.new.value result
+        ((location.new ≡ location.old) × (text.new ≡ text.old) × (needed.new ≡ needed.old))
         (LocatesAt address location.new text.new needed.new) }
 {
     let Some(mut file) = handle.take(alloc) else {
@@ -153,6 +154,8 @@ pub extern "C" fn addr2line_find_frames(
     needed: &mut usize,
 ) -> u32
     ensures gives { CallsFile handle.old.value handle.new.value result
+        ((frames.new ≡ frames.old) × (count.new ≡ count.old) × (text.new ≡ text.old)
+        × (needed.new ≡ needed.old))
         (FramesBy address (names_by flags) frames.new count.new text.new needed.new) }
 {
     let Some(mut file) = handle.take(alloc) else {
@@ -173,6 +176,7 @@ pub extern "C" fn addr2line_get_load(
     needed: &mut usize,
 ) -> u32
     ensures gives { CallsFile handle.old.value handle.new.value result
+        ((load.new ≡ load.old) × (text.new ≡ text.old) × (needed.new ≡ needed.old))
         (TellsLoad load.new text.new needed.new) }
 {
     let Some(file) = handle.take(alloc) else {
@@ -191,7 +195,7 @@ pub extern "C" fn addr2line_answer_load(
     token: u64,
     bytes: &'static [u8],
 ) -> u32
-    ensures gives { CallsFile handle.old.value handle.new.value result
+    ensures gives { CallsFile handle.old.value handle.new.value result NoPlaces
         (AnswersToken token bytes.now) }
 {
     let Some(mut file) = handle.take(alloc) else {
@@ -205,7 +209,7 @@ pub extern "C" fn addr2line_answer_load(
 /// Takes the answer to the load of a token back.
 #[unsafe(no_mangle)]
 pub extern "C" fn addr2line_forget(alloc: Global, handle: &mut Handle, token: u64) -> u32
-    ensures gives { CallsFile handle.old.value handle.new.value result
+    ensures gives { CallsFile handle.old.value handle.new.value result NoPlaces
         (ForgetsAnswer token) }
 {
     let Some(mut file) = handle.take(alloc) else {
@@ -219,7 +223,7 @@ pub extern "C" fn addr2line_forget(alloc: Global, handle: &mut Handle, token: u6
 /// Asks for the loads of an address, before a lookup does.
 #[unsafe(no_mangle)]
 pub extern "C" fn addr2line_preload(alloc: Global, handle: &mut Handle, address: u64) -> u32
-    ensures gives { CallsFile handle.old.value handle.new.value result
+    ensures gives { CallsFile handle.old.value handle.new.value result NoPlaces
         (PreloadsAt address) }
 {
     let Some(mut file) = handle.take(alloc) else {
@@ -233,7 +237,7 @@ pub extern "C" fn addr2line_preload(alloc: Global, handle: &mut Handle, address:
 /// Parses the lines and the functions of all units, so that lookups take no memory afterwards.
 #[unsafe(no_mangle)]
 pub extern "C" fn addr2line_parse_all(alloc: Global, handle: &mut Handle) -> u32
-    ensures gives { CallsFile handle.old.value handle.new.value result
+    ensures gives { CallsFile handle.old.value handle.new.value result NoPlaces
         (ParsesAll) }
 {
     let Some(mut file) = handle.take(alloc) else {
@@ -259,6 +263,8 @@ pub extern "C" fn addr2line_locations(
     needed: &mut usize,
 ) -> u32
     ensures gives { CallsFile handle.old.value handle.new.value result
+        ((spans.new ≡ spans.old) × (count.new ≡ count.old) × (text.new ≡ text.old)
+        × (needed.new ≡ needed.old))
         (SpansFrom low high first (length spans.old) spans.new count.new text.new needed.new) }
 {
     let Some(mut file) = handle.take(alloc) else {
@@ -280,6 +286,7 @@ pub extern "C" fn addr2line_find_symbol(
     needed: &mut usize,
 ) -> u32
     ensures gives { CallsFile handle.old.value handle.new.value result
+        ((symbol.new ≡ symbol.old) × (text.new ≡ text.old) × (needed.new ≡ needed.old))
         (SymbolAt address symbol.new text.new needed.new) }
 {
     let Some(file) = handle.take(alloc) else {
@@ -300,6 +307,7 @@ pub extern "C" fn addr2line_section_range(
     end: &mut u64,
 ) -> u32
     ensures gives { CallsFile handle.old.value handle.new.value result
+        ((begin.new ≡ begin.old) × (end.new ≡ end.old))
         (SectionNamed name.now begin.new end.new) }
 {
     let Some(file) = handle.take(alloc) else {

@@ -1,6 +1,6 @@
 //! The loads that a handle was asked to answer, by their places.
 
-ghost use Rattle.std.specs.Prelude.{◌≡◌, ◌==◌, [], false, length, nat_le, option_map, IfErr, Ok, OnErr, OnOk};
+ghost use Rattle.std.specs.Prelude.{◌≡◌, ◌==◌, [], false, length, nat_le, None, option_map, IfErr, Ok, OnErr, OnOk};
 ghost use Rattle.gimli_read.specs.declared.error.Error.TheVariants.{OutOfMemory};
 ghost use Rattle.addr2line_units.specs.Loads.{token_number};
 ghost use Rattle.addr2line_c.specs.Answered.{HasMemory, IfNothing, SaysWhatIsThere};
@@ -115,6 +115,8 @@ impl<R: Reader> AskedLoads<R> {
             ≡ with_load self.old.loads.items load) }
         ensures kept { OnErr result (self.new.loads.items ≡ self.old.loads.items) }
         ensures refused { IfErr result (λ e. e ≡ OutOfMemory) }
+        ensures added { OnErr result
+            (place_of_load self.old.loads.items load.unit ≡ None) }
     {
         match self.place_of(load.unit) {
             Some(place) => self.set_waits(place, true),

@@ -9,6 +9,7 @@ ghost use Rattle.addr2line.specs.WaitingLookups.{frames_of_context};
 ghost use Rattle.addr2line_c.specs.declared.status.Status.TheVariants.{Refused};
 ghost use Rattle.addr2line_c.specs.Answered.{IfNothing, SaysWhatIsThere};
 ghost use Rattle.addr2line_c.specs.Left.{AsksIfWaiting, LeavesFrames, LeavesLocation};
+ghost use Rattle.addr2line_c.specs.PlainNames.{AreNamedPlain};
 ghost use Rattle.addr2line_c.specs.Written.{IsWrittenLocation, SaysFrames, frames_fit};
 
 use crate::found::{put_found, put_found_frames};
@@ -56,12 +57,16 @@ pub(crate) fn find_frames<R: Reader>(
     ensures gives { SaysFrames names (frames_of_context context.old probe) out.new count.new
         buffer.new needed.new result }
     ensures none { IfNothing result ((count.new ≡ 0) × (needed.new ≡ 0)) }
-    ensures left { LeavesFrames probe (frames_fit out.new count.new buffer.new needed.new) result
+    ensures left { LeavesFrames probe names
+        (frames_fit out.new count.new buffer.new needed.new) result loads.old.loads.items
         context.old context.new }
     ensures after { AsksIfWaiting probe context.old loads.old.loads.items loads.new.loads.items
         result }
     ensures memory { names ≡ None → WaitsForNone context.old probe
         → IsKnownFew Stop context.old probe → result ≢ Refused OutOfMemory }
+    ensures plain { AreNamedPlain (frames_of_context context.old probe)
+        → WaitsForNone context.old probe → IsKnownFew Stop context.old probe
+        → result ≢ Refused OutOfMemory }
 {
     match context.find_frames(probe) {
         LookupResult::Output(found) => {

@@ -1,8 +1,13 @@
-//! Answers, and the texts in them.
+//! Answers, the texts in them, and the buffers that calls write them to.
 use crate::sys::{self, addr2line_frame, addr2line_location, addr2line_number, addr2line_symbol, addr2line_text};
-use crate::Error;
+use crate::{error, Error};
 use std::borrow::Cow;
+use std::ffi::c_char;
 use std::fmt;
+
+/// How many frames, and how many bytes of texts, there is room for at first.
+pub(crate) const FIRST_FRAMES: usize = 16;
+const FIRST_TEXT: usize = 512;
 
 /// A text as the file has it: bytes that are mostly, but not surely, UTF-8.
 #[derive(Clone, PartialEq, Eq, PartialOrd, Ord, Hash)]
@@ -109,7 +114,7 @@ pub struct Symbol {
 
 impl Symbol {
     pub(crate) fn new(text: &[u8], part: &addr2line_symbol) -> Self {
-        let name = text_of(text, &part.name).map(|name| name.to_string_lossy().into_owned());
+        let name = text_of(text, &part.name).map(|name| name.to_string());
         Symbol { address: part.address, name: name.unwrap_or_default() }
     }
 }
@@ -123,12 +128,24 @@ fn number_of(part: &addr2line_number) -> Option<u32> {
     (part.is_there != 0).then_some(part.value)
 }
 
+/// What a call writes with its texts, or `None` where it finds nothing: it is made again with more room where it asks for that.
+pub(crate) fn parts<P: Default>(
+    mut call: impl FnMut(&mut P, *mut c_char, usize, &mut usize) -> Result<sys::addr2line_status, Error>,
+) -> Result<Option<(P, Vec<u8>)>, Error> {
+    let (mut part, mut text, mut needed) = (P::default(), Vec::<u8>::new(), FIRST_TEXT);
+    loop {
+        grow(&mut text, needed)?;
+        let status = call(&mut part, text.as_mut_ptr().cast(), text.len(), &mut needed)?;
+        if status != sys::ADDR2LINE_TOO_SMALL {
+            return Ok(error::found(status)?.then_some((part, text)));
+        }
+    }
+}
+
 /// Gives a buffer a length. A hostile file may ask for much, and where that isn't there the program goes on.
 pub(crate) fn grow<T: Clone + Default>(buffer: &mut Vec<T>, length: usize) -> Result<(), Error> {
-    if length > buffer.len() {
-        let more = length - buffer.len();
-        buffer.try_reserve_exact(more).map_err(|_| Error(sys::ADDR2LINE_OUT_OF_MEMORY))?;
-        buffer.resize(length, T::default());
-    }
+    let more = length.saturating_sub(buffer.len());
+    buffer.try_reserve_exact(more).map_err(|_| Error(sys::ADDR2LINE_OUT_OF_MEMORY))?;
+    buffer.resize(buffer.len() + more, T::default());
     Ok(())
 }

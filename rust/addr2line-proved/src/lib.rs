@@ -14,17 +14,12 @@ mod error;
 pub use answers::{Frame, Frames, Location, Symbol, Text};
 pub use error::Error;
 
-use std::ffi::{c_char, CString};
+use std::ffi::CString;
 use std::marker::PhantomData;
 use std::ops::Range;
 use std::os::unix::ffi::OsStrExt;
 use std::path::Path;
 use std::ptr;
-use sys::{addr2line_file, addr2line_location, addr2line_status, addr2line_symbol};
-
-/// How many frames, and how many bytes of texts, there is room for at first.
-const FIRST_FRAMES: usize = 16;
-const FIRST_TEXT: usize = 512;
 
 /// Which names of functions stand as in the source, and not as the file has them.
 #[derive(Clone, Copy, Debug, PartialEq, Eq)]
@@ -55,7 +50,7 @@ pub enum Demangle {
 #[derive(Debug)]
 pub struct Context<'a> {
     // Its pointers are what keeps it on its thread.
-    file: addr2line_file,
+    file: sys::addr2line_file,
     opens_files: bool,
     bytes: PhantomData<&'a [u8]>,
 }
@@ -78,10 +73,9 @@ impl Context<'static> {
     ///
     /// Refused `ADDR2LINE_BAD_FLAGS` where there is another one.
     pub fn open_by(path: &Path, sup: Option<&Path>, flags: u32) -> Result<Self, Error> {
-        let path = path_of(path)?;
-        let sup = sup.map(path_of).transpose()?;
-        let mut context = Context::closed(true);
+        let (path, sup) = (path_of(path)?, sup.map(path_of).transpose()?);
         let sup_path = sup.as_ref().map_or(ptr::null(), |sup| sup.as_ptr());
+        let mut context = Context { file: sys::ADDR2LINE_FILE_INIT, opens_files: true, bytes: PhantomData };
         // SAFETY: both paths end in a zero byte and live until the call is over; a null pointer stands for no second one.
         // That nothing writes to a mapped file is asked of the caller, in words, since nothing here can check it.
         let status = unsafe { sys::addr2line_file_open_with(path.as_ptr(), sup_path, flags, &mut context.file) };
@@ -105,16 +99,12 @@ impl<'a> Context<'a> {
 
     /// The same with the bytes of its supplementary file, of which there is none where they are empty.
     pub fn over_with_sup(bytes: &'a [u8], sup: &'a [u8]) -> Result<Self, Error> {
-        let mut context = Context::closed(false);
+        let mut context = Context { file: sys::ADDR2LINE_FILE_INIT, opens_files: false, bytes: PhantomData };
         let handle = &mut context.file.handle;
         // SAFETY: the bytes outlive the context, which borrows them for 'a; they can't be written to as long.
         let status =
             unsafe { sys::addr2line_open(bytes.as_ptr().cast(), bytes.len(), sup.as_ptr().cast(), sup.len(), handle) };
         error::found(status).map(|_| context)
-    }
-
-    fn closed(opens_files: bool) -> Self {
-        Context { file: sys::ADDR2LINE_FILE_INIT, opens_files, bytes: PhantomData }
     }
 
     /// The frames at an address of the file: the innermost inlined function first, the one that is no inlined call last.
@@ -124,13 +114,10 @@ impl<'a> Context<'a> {
 
     /// The same with names as they stand in the source.
     pub fn frames_with(&mut self, address: u64, demangle: Demangle) -> Result<Frames, Error> {
-        let flags = demangle as u32;
-        let mut frames = Vec::new();
-        let mut count = FIRST_FRAMES;
-        let file = &mut self.file;
-        let opens_files = self.opens_files;
-        let text = texts(|text, size, needed| {
-            answers::grow(&mut frames, count)?;
+        let (file, opens_files, flags) = (&mut self.file, self.opens_files, demangle as u32);
+        let mut count = answers::FIRST_FRAMES;
+        let found = answers::parts(|frames: &mut Vec<sys::addr2line_frame>, text, size, needed| {
+            answers::grow(frames, count)?;
             let (room, first) = (frames.len(), frames.as_mut_ptr());
             // SAFETY: the file is one that was opened, on this thread; `flags` is one of the three that there are; `first`
             // has room for `room` frames and `text` for `size` bytes, and nothing overlaps.
@@ -143,39 +130,36 @@ impl<'a> Context<'a> {
                 }
             })
         })?;
+        let (mut frames, text) = found.unwrap_or_default();
         frames.truncate(count);
-        Ok(Frames { text: text.unwrap_or_default(), frames })
+        Ok(Frames { text, frames })
     }
 
     /// The location of an address; of inlined functions that of the innermost.
     pub fn location(&mut self, address: u64) -> Result<Option<Location<'static>>, Error> {
-        let mut part = addr2line_location::default();
         let handle = &mut self.file.handle;
-        let text = texts(|text, size, needed| {
+        let found = answers::parts(|part, text, size, needed| {
             // SAFETY: the handle is one that was opened, and `text` has room for `size` bytes.
-            Ok(unsafe { sys::addr2line_find_location(handle, address, &mut part, text, size, needed) })
+            Ok(unsafe { sys::addr2line_find_location(handle, address, part, text, size, needed) })
         })?;
-        Ok(text.map(|text| Location::new(&text, &part).into_owned()))
+        Ok(found.map(|(part, text)| Location::new(&text, &part).into_owned()))
     }
 
     /// The symbol at or nearest below an address, if its size allows.
     pub fn symbol(&mut self, address: u64) -> Result<Option<Symbol>, Error> {
-        let mut part = addr2line_symbol::default();
         let handle = &mut self.file.handle;
-        let text = texts(|text, size, needed| {
+        let found = answers::parts(|part, text, size, needed| {
             // SAFETY: as that of `location`.
-            Ok(unsafe { sys::addr2line_find_symbol(handle, address, &mut part, text, size, needed) })
+            Ok(unsafe { sys::addr2line_find_symbol(handle, address, part, text, size, needed) })
         })?;
-        Ok(text.map(|text| Symbol::new(&text, &part)))
+        Ok(found.map(|(part, text)| Symbol::new(&text, &part)))
     }
 
     /// The addresses of the first section of a name.
     pub fn section_range(&mut self, name: impl AsRef<[u8]>) -> Result<Option<Range<u64>>, Error> {
-        let name = name.as_ref();
-        let mut range = 0..0;
+        let (handle, name, mut range) = (&mut self.file.handle, name.as_ref(), 0..0);
         // SAFETY: the handle is one that was opened, and the name has that many bytes.
         let status = unsafe {
-            let handle = &mut self.file.handle;
             sys::addr2line_section_range(handle, name.as_ptr().cast(), name.len(), &mut range.start, &mut range.end)
         };
         Ok(error::found(status)?.then_some(range))
@@ -185,14 +169,14 @@ impl<'a> Context<'a> {
     /// whose split file isn't read yet is looked up without it from then on.
     pub fn parse_all(&mut self) -> Result<(), Error> {
         // SAFETY: the handle is one that was opened.
-        error::found(unsafe { sys::addr2line_parse_all(&mut self.file.handle) }).map(|_| ())
+        error::found(unsafe { sys::addr2line_parse_all(&mut self.file.handle) }).map(drop)
     }
 
     /// Answers each split file that is waited for by the file at its path. That is mapped where the file itself is, and else
     /// read.
     pub fn answer_loads(&mut self) -> Result<(), Error> {
         // SAFETY: the file is one that was opened.
-        error::found(unsafe { sys::addr2line_file_answer_loads(&mut self.file) }).map(|_| ())
+        error::found(unsafe { sys::addr2line_file_answer_loads(&mut self.file) }).map(drop)
     }
 
     /// The handle, for the calls of [`sys`] that aren't here. It is the context that closes it.
@@ -211,19 +195,4 @@ impl Drop for Context<'_> {
 /// A path as C reads it: up to its first zero byte, which would be that of another file.
 fn path_of(path: &Path) -> Result<CString, Error> {
     CString::new(path.as_os_str().as_bytes()).map_err(|_| Error(sys::ADDR2LINE_CANNOT_READ))
-}
-
-/// The texts that a call writes, or `None` where it finds nothing: it is made again with more room where it asks for that.
-fn texts(
-    mut call: impl FnMut(*mut c_char, usize, &mut usize) -> Result<addr2line_status, Error>,
-) -> Result<Option<Vec<u8>>, Error> {
-    let mut text = Vec::<u8>::new();
-    let mut needed = FIRST_TEXT;
-    loop {
-        answers::grow(&mut text, needed)?;
-        let status = call(text.as_mut_ptr().cast(), text.len(), &mut needed)?;
-        if status != sys::ADDR2LINE_TOO_SMALL {
-            return Ok(error::found(status)?.then_some(text));
-        }
-    }
 }

@@ -52,7 +52,9 @@ fn a_location_a_symbol_and_a_section_are_found_or_not() {
 #[test]
 fn each_way_of_opening_gives_the_same_frames() {
     let area = std::path::Path::new(AREA);
-    for flags in [0, sys::ADDR2LINE_FILE_MAP, sys::ADDR2LINE_DECOMPRESS, sys::ADDR2LINE_FILE_MAP | sys::ADDR2LINE_DECOMPRESS] {
+    for flags in
+        [0, sys::ADDR2LINE_FILE_MAP, sys::ADDR2LINE_DECOMPRESS, sys::ADDR2LINE_FILE_MAP | sys::ADDR2LINE_DECOMPRESS]
+    {
         let mut context = Context::open_by(area, None, flags).unwrap();
         assert_eq!(lines(&context.frames(INLINED).unwrap()), FOUR_FRAMES);
     }

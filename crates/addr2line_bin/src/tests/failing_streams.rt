@@ -1,6 +1,7 @@
 //! Runs whose streams fail.
 
 use crate::exit::{Exit, status_of};
+use crate::handed::Handed;
 use crate::input::ReaderInput;
 use crate::program::run;
 use crate::tests::runs::{Fixed, FoundLocation, request_in, run_files, run_lookups};
@@ -22,8 +23,8 @@ const FAULT_LINE: &str = "addr2line: error writing output\n";
 // How many bytes went out, where they are a beginning of the text. 1000 more for the line of a
 // fault, 2000 more for status 1; 9000 for anything else, and where a call is tried again.
 fn code_of(status: ExitCode, streams: &Streams, text: &str) -> usize {
-    let out = streams.out.writer.taken.as_slice();
-    let err = streams.err.writer.taken.as_slice();
+    let out = streams.out.writer.0.taken.as_slice();
+    let err = streams.err.writer.0.taken.as_slice();
     if !text.as_bytes().starts_with(out) || (err != FAULT_LINE.as_bytes() && !err.is_empty()) {
         return 9000;
     }
@@ -137,11 +138,11 @@ fn told_code(
     let mut streams = Streams::sound(alloc);
     streams.err = failing(alloc, calls, fault);
     let file = Fixed::new(CUT);
-    let mut input = ReaderInput::new(b"".as_slice());
+    let mut input = ReaderInput::new(Handed(b"".as_slice()));
     let exit = run_lookups(alloc, given, Ok(file), &mut input, &mut streams)?;
-    let err = streams.err.writer.taken.as_slice();
-    let is_same = streams.out.writer.taken.as_slice() == out.as_bytes()
-        && streams.out.writer.flushed == out.len();
+    let err = streams.err.writer.0.taken.as_slice();
+    let is_same = streams.out.writer.0.taken.as_slice() == out.as_bytes()
+        && streams.out.writer.0.flushed == out.len();
     let is_part = lines.as_bytes().starts_with(err) && !streams.were_called_late();
     if exit == Exit::Done && is_same && is_part {
         Ok(err.len())
@@ -203,7 +204,7 @@ fn goes(
     want: (&str, &str, Exit),
 ) -> Result<bool, Fail> {
     let lines = StopReader::new(b"10\n20\r\nzz\n30", calls, fault);
-    let mut input = ReaderInput::new(BufReader::new(alloc, lines)?);
+    let mut input = ReaderInput::new(Handed(BufReader::new(alloc, lines)?));
     let mut streams = Streams::sound(alloc);
     let file = Fixed::new(Ok(None));
     let given = ["a2l", "-e", "f"];
@@ -251,7 +252,7 @@ fn each_text_is_flushed(rt: HostRuntime) -> Result<(), Fail> {
     let request = request_in(rt.alloc(), &["a2l", "-e", "f", "10", "zz", "40"])?;
     let mut out = known_stream(rt.alloc());
     let mut err = known_stream(rt.alloc());
-    let mut input = ReaderInput::new(b"".as_slice());
+    let mut input = ReaderInput::new(Handed(b"".as_slice()));
     let file = Fixed::new(Ok(None));
     let exit = run(
         rt.alloc(),

@@ -1,6 +1,7 @@
 //! Runs over files: a main file, split files and a supplementary file.
 
 use crate::exit::{Exit, status_of};
+use crate::handed::Handed;
 use crate::input::ReaderInput;
 use crate::tests::runs::run_files;
 use crate::tests::sample_files::{
@@ -59,7 +60,7 @@ fn a_missing_file_of_the_host_is_told(rt: HostRuntime) -> Result<(), Fail> {
         rt.alloc(),
         HostFiles::new(rt),
         Ok(given),
-        Ok(ReaderInput::new(b"".as_slice())),
+        Ok(ReaderInput::new(Handed(b"".as_slice()))),
         &mut streams.out,
         &mut streams.err,
     );

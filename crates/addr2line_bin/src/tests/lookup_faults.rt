@@ -1,6 +1,7 @@
 //! Worked cases of locations, and the lines of faults.
 
 use crate::exit::Exit;
+use crate::handed::Handed;
 use crate::input::ReaderInput;
 use crate::tests::runs::{Fixed, FoundLocation, run_lookups};
 use crate::tests::streams::Streams;
@@ -66,7 +67,7 @@ fn first_wrong(alloc: Global, cases: &[Case]) -> Result<usize, Fail> {
             found: *found,
             symbol: *symbol,
         };
-        let mut input = ReaderInput::new(b"".as_slice());
+        let mut input = ReaderInput::new(Handed(b"".as_slice()));
         let got = run_lookups(alloc, words.as_slice(), Ok(file), &mut input, &mut streams)?;
         if got != *exit || !streams.have(out, err) {
             return Ok(at);
@@ -262,7 +263,7 @@ fn objects_have_a_symbol_and_escapes(rt: HostRuntime) -> Result<(), Fail> {
 // Whether a run that can't load its file only tells this.
 fn is_told(alloc: Global, fault: LoaderError, line: &str) -> Result<bool, Fail> {
     let mut streams = Streams::sound(alloc);
-    let mut input = ReaderInput::new(b"".as_slice());
+    let mut input = ReaderInput::new(Handed(b"".as_slice()));
     let given = ["a2l", "-e", "f", "10"];
     let exit = run_lookups(alloc, &given, Err(fault), &mut input, &mut streams)?;
     Ok(exit == Exit::Failed && streams.have("", line))

@@ -5,6 +5,7 @@ ghost use Rattle.addr2line_bin.specs.Common.{result_map, as_location};
 
 use crate::command_line::{Request, command_line};
 use crate::exit::Exit;
+use crate::handed::Handed;
 use crate::input::{Input, ReaderInput};
 use crate::lookups::Lookups;
 use crate::program::run;
@@ -125,7 +126,7 @@ pub fn run_files(
         alloc,
         held,
         Ok(words(alloc, given)?),
-        Ok(ReaderInput::new(input)),
+        Ok(ReaderInput::new(Handed(input))),
         &mut streams.out,
         &mut streams.err,
     ))

@@ -2,6 +2,7 @@
 
 ghost use Rattle.std.specs.Prelude.{◌≡◌, Some, length};
 
+use crate::handed::Handed;
 use crate::stream::{Stream, Written};
 use std::alloc::Global;
 use std::io;
@@ -66,8 +67,8 @@ impl Write for StopWriter {
 }
 
 /// A writer whose next call after so many fails.
-pub fn failing(alloc: Global, calls: u64, fault: ErrorKind) -> Written<StopWriter> {
-    Written::new(StopWriter {
+pub fn failing(alloc: Global, calls: u64, fault: ErrorKind) -> Written<Handed<StopWriter>> {
+    Written::new(Handed(StopWriter {
         taken: Vec::new(alloc),
         flushed: 0,
         late_calls: 0,
@@ -75,12 +76,12 @@ pub fn failing(alloc: Global, calls: u64, fault: ErrorKind) -> Written<StopWrite
         has_failed: false,
         room: AMPLE,
         fault,
-    })
+    }))
 }
 
 /// A writer that takes no byte after so many.
-pub fn full_after(alloc: Global, room: usize) -> Written<StopWriter> {
-    Written::new(StopWriter {
+pub fn full_after(alloc: Global, room: usize) -> Written<Handed<StopWriter>> {
+    Written::new(Handed(StopWriter {
         taken: Vec::new(alloc),
         flushed: 0,
         late_calls: 0,
@@ -88,11 +89,11 @@ pub fn full_after(alloc: Global, room: usize) -> Written<StopWriter> {
         has_failed: false,
         room,
         fault: ErrorKind::Other,
-    })
+    }))
 }
 
 /// A writer that doesn't fail.
-pub fn unfailing(alloc: Global) -> Written<StopWriter> {
+pub fn unfailing(alloc: Global) -> Written<Handed<StopWriter>> {
     full_after(alloc, AMPLE)
 }
 
@@ -140,9 +141,9 @@ impl Read for StopReader {
 #[derive(Drop)]
 pub struct Streams {
     /// The output.
-    pub out: Written<StopWriter>,
+    pub out: Written<Handed<StopWriter>>,
     /// Standard error.
-    pub err: Written<StopWriter>,
+    pub err: Written<Handed<StopWriter>>,
 }
 
 impl Streams {
@@ -157,19 +158,19 @@ impl Streams {
     /// Whether these texts went to the output and to standard error, and neither was called again
     /// after it had failed.
     pub fn took(&self, out: &str, err: &str) -> bool {
-        self.out.writer.taken.as_slice() == out.as_bytes()
-            && self.err.writer.taken.as_slice() == err.as_bytes()
+        self.out.writer.0.taken.as_slice() == out.as_bytes()
+            && self.err.writer.0.taken.as_slice() == err.as_bytes()
             && !self.were_called_late()
     }
 
     /// Whether one of them was called again after it had failed.
     pub fn were_called_late(&self) -> bool {
-        self.out.writer.late_calls != 0 || self.err.writer.late_calls != 0
+        self.out.writer.0.late_calls != 0 || self.err.writer.0.late_calls != 0
     }
 
     /// The same, and all of the output was flushed.
     pub fn have(&self, out: &str, err: &str) -> bool {
-        self.took(out, err) && self.out.writer.flushed == out.len()
+        self.took(out, err) && self.out.writer.0.flushed == out.len()
     }
 }
 

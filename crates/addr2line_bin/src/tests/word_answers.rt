@@ -1,5 +1,6 @@
 //! Words that ask for nothing of a file: the help, the version, and how the program is used.
 
+use crate::handed::Handed;
 use crate::input::ReaderInput;
 use crate::program_name::program_name;
 use crate::tests::runs::run_files;
@@ -179,7 +180,7 @@ fn is_told(
     status: u8,
 ) -> Result<bool, Fail> {
     let mut streams = Streams::sound(alloc);
-    let input: Result<ReaderInput<Empty>, AllocError> = Err(AllocError);
+    let input: Result<ReaderInput<Handed<Empty>>, AllocError> = Err(AllocError);
     let got = run_program(
         alloc,
         MemoryFiles::new(alloc),

@@ -6,7 +6,7 @@ pub returns : goal.returns
 returns c =
     let says = AnswersToken c.args.token c.args.bytes.now in
     record {
-      gives = calls_open _ _ c.number-2.result says c.in-Some.file.value c.answer_load-status.new.self c.answer_load-status.result
+      gives = calls_open _ _ c.number-2.result _ says c.in-Some.file.value c.answer_load-status.new.self c.answer_load-status.result
           (search rules) (search rules) (search rules)
           (subst (λ (f : OpenFile). says f c.answer_load-status.new.self c.answer_load-status.result) c.deref_mut.ensures.value c.answer_load-status.ensures.gives);
     }

@@ -6,7 +6,7 @@ pub returns : goal.returns
 returns c =
     let says = ParsesAll in
     record {
-      gives = calls_open _ _ c.number-2.result says c.in-Some.file.value c.parse_all-status.new.self c.parse_all-status.result
+      gives = calls_open _ _ c.number-2.result _ says c.in-Some.file.value c.parse_all-status.new.self c.parse_all-status.result
           (search rules) (search rules) (search rules)
           (subst (λ (f : OpenFile). says f c.parse_all-status.new.self c.parse_all-status.result) c.deref_mut.ensures.value c.parse_all-status.ensures.gives);
     }

@@ -6,7 +6,7 @@ pub returns : goal.returns
 returns c =
     let says = PreloadsAt c.args.address in
     record {
-      gives = calls_open _ _ c.number-2.result says c.in-Some.file.value c.preload-status.new.self c.preload-status.result
+      gives = calls_open _ _ c.number-2.result _ says c.in-Some.file.value c.preload-status.new.self c.preload-status.result
           (search rules) (search rules) (search rules)
           (subst (λ (f : OpenFile). says f c.preload-status.new.self c.preload-status.result) c.deref_mut.ensures.value c.preload-status.ensures.gives);
     }

@@ -6,7 +6,7 @@ pub returns : goal.returns
 returns c =
     let says = SectionNamed c.args.name.now c.section_range-status.new.begin c.section_range-status.new.end in
     record {
-      gives = calls_open _ _ c.number-2.result says c.in-Some.file.value c.in-Some.file.value c.section_range-status.result
+      gives = calls_open _ _ c.number-2.result _ says c.in-Some.file.value c.in-Some.file.value c.section_range-status.result
           (search rules) (search rules) (search rules)
           (subst (λ (f : OpenFile). says f f c.section_range-status.result) c.deref.ensures c.section_range-status.ensures.gives);
     }

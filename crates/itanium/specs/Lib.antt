@@ -1,0 +1,15 @@
+pub mod Tree
+pub mod Tables
+pub mod Reading
+pub mod Identifiers
+pub mod Substitutions
+pub mod Args
+pub mod Unqualified
+pub mod Names
+pub mod Types
+pub mod Encodings
+pub mod Grammar
+pub mod Parts
+pub mod Shown
+pub mod Demangled
+pub mod Worked

@@ -88,7 +88,7 @@ made_of_kept see choice load (Other id) (Some x) is made = absurd cc
 -- what was kept with the stamp stays
 pub keeps_as_before : (compressed : CompressedSections) (load : SplitLoad) (path : List ℕ) (stamp : FileStamp) (answer : Loading (Option Sections)) (kept : KeptFiles) (found : SplitFound ObjectFile)
     → IsKeptAt kept path stamp found → KeepsStamped compressed load path stamp answer kept kept
-keeps_as_before compressed load path stamp answer kept found at = record {
+keeps_as_before choice load path stamp answer kept found at = record {
   after = record { others = λ other ne. refl; own = λ file is. inl is };
   stamped = kept_stamp kept path stamp found at;
 }

@@ -282,7 +282,8 @@ fn as_kept(
     found: SplitFound<AnsweringFile>,
 ) -> (SplitFound<ElfFile>, Option<Rc<Dwarf<EndianBytes>>>)
     ensures gives { result.0 ≡ found_as (λ f. f.object) found }
-    ensures sections { option_map (λ d. d.value) result.1 ≡ wanted_by (λ f. f.sections.value) found }
+    ensures sections { option_map (λ d. d.value) result.1
+        ≡ wanted_by (λ f. f.sections.value) found }
 {
     match found {
         SplitFound::Wanted(file) => (SplitFound::Wanted(file.object), Some(file.sections)),
@@ -290,9 +291,9 @@ fn as_kept(
     }
 }
 
-// The sections of the file at a path with a stamp for a load. The file is read, and kept in place of
-// what was kept for the path: itself if it has sections, so that of the files that a hostile unit
-// names only those are held that answer.
+// The sections of the file at a path with a stamp for a load. The file is read, and kept in place
+// of what was kept for the path: itself if it has sections, so that of the files that a hostile
+// unit names only those are held that answer.
 fn read_stamped<F: FileSource>(
     alloc: Global,
     files: &F,
@@ -313,7 +314,7 @@ fn read_stamped<F: FileSource>(
         return Ok(None);
     };
     let (found, sections) = as_kept(found);
-    // A refused growth is no refusal of the answer: nothing is kept then, and the file is read again.
+    // A refused growth is no refusal of the answer: nothing is kept, and the file is read again.
     match kept.put(path, stamp, found) {
         Ok(()) => {}
         Err(_) => {}
